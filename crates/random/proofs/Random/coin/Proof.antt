@@ -1,0 +1,17 @@
+use Rattle.random.specs.Generator.{firstSide}
+use borrow.Author.Needs.{needs}
+use Rattle.random.proofs.Random.coin.Statement.{statement}
+use Rattle.random.proofs.Random.coin.Tie as tie
+use Rattle.random.proofs.Random.coin.Reads as reads
+use Rattle.random.proofs.Random.coin.Lts as lts
+use Rattle.random.proofs.Random.next_u64.Reads as next-u64-reads
+
+next-u64-requires : tie.Need-next-u64-requires
+next-u64-requires c κs = search needs
+
+returns : tie.Need-returns
+unfolding firstSide
+returns c = rw (c .before .before .next-u64 .ensures)
+
+pub coin-spec : {M : Type 1} → statement M
+coin-spec = tie.close (tie.spec next-u64-requires returns)

@@ -1,0 +1,316 @@
+-- The laws of programs of draws. In order: what a lawful run is; that every number and every program runs lawfully (`pick-lawful`,
+-- `run-lawful`) and that a number takes a draw (`pick-taking`), by induction on numbers and programs; what is drawn is in range (`Yields`);
+-- how a program made by `_>>=_` runs, for the code that draws one value after the other; how a number is drawn again, for loops.
+-- The laws on the code's own structs are in SupplyLaws. Assumes nothing.
+use mathlib.Core.Path.{_≡_, refl, sym, ap, _∙_, subst}
+use mathlib.Core.Bool.{Bool, true, false, cond}
+use Prim.Native.Nat.{ℕ, zero, suc, _+_, _-_, _*_, _/_, _%_, _^_, _≤_, _<_}
+use native.Mathlib.Nat.{div-lt-iff-lt-mul, mul-lt-mul-of-pos-right, mul-comm, mod-lt}
+use native.Mathlib.Omega.{arith}
+use lib.Dec.{lit<}
+use lib.Ieee.{Float, fin, lt}
+use lib.IntN.{pos}
+use Rattle.random.specs.Xoshiro.{output}
+use Rattle.random.specs.Generator.{wordOf, next, after, uniformOf}
+use Rattle.random.specs.UniformLaws.{uniform-lt-one}
+use Rattle.random.specs.Draw.{Number, word, until, map, Draw, return, draws, draw, _>>=_, uniform, fair, below, Drawn, spent, got, onward, wordFrom, untilFrom, pick, run}
+use Rattle.random.specs.declared.Random.{Random}
+use Rattle.random.specs.declared.Supply.{Supply}
+
+-- ---- lawful runs
+
+-- a supply with k more draws
+abbrev pub more : ℕ → Supply → Supply
+more k s = record { random = s .random; left = s .left + k }
+
+-- from the supply s to the supply u: the generator is stepped as often as draws were made
+pub record Stepped (s u : Supply) : Type 0 where
+  pub fewer : u .left ≤ s .left
+  pub moved : u .random ≡ after (s .left - u .left) (s .random)
+
+-- steps: a value leaves the generator stepped as often as draws were made; allowance: more draws change nothing where the draws were not spent
+pub record Lawful {A : Type 0} (d : Supply → Drawn A) : Type 0 where
+  pub steps : (s : Supply) (a : A) (u : Supply) → d s ≡ got a u → Stepped s u
+  pub allowance : (k : ℕ) (s : Supply) (a : A) (u : Supply) → d s ≡ got a u → d (more k s) ≡ got a (more k u)
+
+-- a value takes a draw or more
+abbrev pub Taking : {A : Type 0} → (Supply → Drawn A) → Type 0
+Taking {A} d = (s : Supply) (a : A) (u : Supply) → d s ≡ got a u → u .left < s .left
+
+-- a value satisfies P
+abbrev pub Yields : {A : Type 0} → (A → Type 0) → (Supply → Drawn A) → Type 0
+Yields {A} P d = (s : Supply) (a : A) (u : Supply) → d s ≡ got a u → P a
+
+-- ---- steps in a row
+
+after-add : (j k : ℕ) (g : Random) → after k (after j g) ≡ after (j + k) g
+unfolding after
+after-add zero k g = let e : k ≡ zero + k = omega arith in ap (λ (m : ℕ). after m g) e
+after-add (suc j) k g = let e : suc (j + k) ≡ suc j + k = omega arith in after-add j k (next g) ∙ ap (λ (m : ℕ). after m g) e
+
+stepped-refl : (s : Supply) → Stepped s s
+unfolding after
+stepped-refl s = let e : 0 ≡ s .left - s .left = omega arith in record { fewer = omega arith; moved = ap (λ (m : ℕ). after m (s .random)) e }
+
+stepped-trans : {s t u : Supply} → Stepped s t → Stepped t u → Stepped s u
+stepped-trans {s} {t} {u} p q =
+    let e : s .left - t .left + (t .left - u .left) ≡ s .left - u .left = omega arith in record {
+      fewer = omega arith;
+      moved = q .moved ∙ ap (after (t .left - u .left)) (p .moved) ∙ after-add (s .left - t .left) (t .left - u .left) (s .random)
+          ∙ ap (λ (m : ℕ). after m (s .random)) e;
+    }
+
+-- ---- taking a run apart
+
+spent-got : {A X : Type 0} {a : A} {u : Supply} → spent ≡ got a u → X
+spent-got e = let z : _≡_ {A = ℕ} 0 1 = cc in absurd (omega arith)
+
+-- where a value and what follows it were both drawn: the value, and the supply between
+record Parts {A B : Type 0} (x : Drawn A) (f : A → Supply → Drawn B) (b : B) (u : Supply) : Type 0 where
+  value : A
+  between : Supply
+  first : x ≡ got value between
+  second : f value between ≡ got b u
+
+parts-of : {A B : Type 0} (x : Drawn A) (f : A → Supply → Drawn B) (b : B) (u : Supply) → onward x f ≡ got b u → Parts x f b u
+unfolding onward
+parts-of spent f b u e = spent-got e
+parts-of (got a s) f b u e = record { value = a; between = s; first = refl; second = e }
+
+-- ---- lawful runs are kept by what programs are made of
+
+got-lawful : {A : Type 0} (a : A) → Lawful (got a)
+got-lawful a = record {
+  steps = λ s b u e. subst (λ (x : Supply). Stepped s x) (cc) (stepped-refl s);
+  allowance = λ k s b u e. (let p : a ≡ b = cc in let q : s ≡ u = cc in λ i. got (p i) (more k (q i)));
+}
+
+onward-lawful : {A B : Type 0} (d : Supply → Drawn A) (f : A → Supply → Drawn B) → Lawful d → ((a : A) → Lawful (f a)) → Lawful (λ s. onward (d s) f)
+unfolding onward
+onward-lawful d f l m = record {
+  steps = λ s b u e. (let p = parts-of (d s) f b u e in stepped-trans (l .steps s (p .value) (p .between) (p .first)) (m (p .value) .steps (p .between) b u (p .second)));
+  allowance = λ k s b u e. (let p = parts-of (d s) f b u e in
+      rw (l .allowance k s (p .value) (p .between) (p .first)) (m (p .value) .allowance k (p .between) b u (p .second)));
+}
+
+onward-taking : {A B : Type 0} (d : Supply → Drawn A) (f : A → Supply → Drawn B) → Taking d → ((a : A) → Lawful (f a)) → Taking (λ s. onward (d s) f)
+onward-taking d f k m s b u e =
+    let p = parts-of (d s) f b u e in
+    let x = k s (p .value) (p .between) (p .first) in
+    let y = m (p .value) .steps (p .between) b u (p .second) .fewer in
+    omega arith
+
+onward-yields : {A B : Type 0} (P : A → Type 0) (Q : B → Type 0) (d : Supply → Drawn A) (f : A → Supply → Drawn B)
+    → Yields P d → ((a : A) → P a → Yields Q (f a)) → Yields Q (λ s. onward (d s) f)
+onward-yields P Q d f y z s b u e = let p = parts-of (d s) f b u e in z (p .value) (y s (p .value) (p .between) (p .first)) (p .between) b u (p .second)
+
+got-yields : {A : Type 0} (P : A → Type 0) (a : A) → P a → Yields P (got a)
+got-yields P a h s b u e = let p : a ≡ b = cc in rw (← p) h
+
+-- one draw
+one-word : (left : ℕ) (g : Random) (w : ℕ) (u : Supply) → wordFrom left g ≡ got w u → (u .left + 1 ≡ left) × (u .random ≡ next g) × (w ≡ wordOf g)
+unfolding wordFrom
+one-word zero g w u e = spent-got e
+one-word (suc left) g w u e = let p : left ≡ u .left = cc in (omega arith, cc, cc)
+
+word-more : (k left : ℕ) (g : Random) (w : ℕ) (u : Supply) → wordFrom left g ≡ got w u → wordFrom (left + k) g ≡ got w (more k u)
+unfolding wordFrom
+word-more k zero g w u e = spent-got e
+word-more k (suc left) g w u e =
+    let x : suc left + k ≡ suc (left + k) = omega arith in
+    let p : wordOf g ≡ w = cc in
+    let q : _≡_ {A = Supply} (record { random = next g; left = left }) u = cc in
+    rw x (λ i. got (p i) (more k (q i)))
+
+word-lawful : Lawful (λ s. wordFrom (s .left) (s .random))
+unfolding after
+word-lawful = record {
+  steps = λ s w u e. (let p = one-word (s .left) (s .random) w u e in let q = p .0 in let one : 1 ≡ s .left - u .left = omega arith in record {
+    fewer = omega arith;
+    moved = p .1 ∙ ap (λ (m : ℕ). after m (s .random)) one;
+  });
+  allowance = λ k s w u e. word-more k (s .left) (s .random) w u e;
+}
+
+word-taking : Taking (λ s. wordFrom (s .left) (s .random))
+word-taking s w u e = let p = one-word (s .left) (s .random) w u e .0 in omega arith
+
+-- drawn again until a test holds
+module _ (test : ℕ → Bool) (d : Supply → Drawn ℕ) where
+  tried : ℕ → ℕ → Supply → Drawn ℕ
+  tried tries k u = cond (test k) (got k u) (untilFrom tries test d u)
+
+  tried-lawful : (tries : ℕ) → Lawful (untilFrom tries test d) → (k : ℕ) → Lawful (tried tries k)
+  unfolding tried
+  tried-lawful tries m k = go (test k)
+    where
+      go : (b : Bool) → Lawful {A = ℕ} (λ u. cond b (got k u) (untilFrom tries test d u))
+      go true = got-lawful k
+      go false = m
+
+  from-lawful : Lawful d → (tries : ℕ) → Lawful (untilFrom tries test d)
+  unfolding untilFrom tried
+  from-lawful l zero = record { steps = λ s k u e. spent-got e; allowance = λ j s k u e. spent-got e }
+  from-lawful l (suc tries) = onward-lawful d (tried tries) l (tried-lawful tries (from-lawful l tries))
+
+  -- more tries change nothing
+  from-more : (j tries : ℕ) (s : Supply) (k : ℕ) (u : Supply) → untilFrom tries test d s ≡ got k u → untilFrom (tries + j) test d s ≡ got k u
+  unfolding untilFrom onward
+  from-more j zero s k u e = spent-got e
+  from-more j (suc tries) s k u e =
+      let p = parts-of (d s) (λ b v. cond (test b) (got b v) (untilFrom tries test d v)) k u e in
+      let g : suc tries + j ≡ suc (tries + j) = omega arith in
+      rw (g, p .first) (go (test (p .value)) (p .value) (p .between) (from-more j tries (p .between) k u) (p .second))
+    where
+      go : (b : Bool) (v : ℕ) (w : Supply) → (untilFrom tries test d w ≡ got k u → untilFrom (tries + j) test d w ≡ got k u)
+          → cond b (got v w) (untilFrom tries test d w) ≡ got k u → cond b (got v w) (untilFrom (tries + j) test d w) ≡ got k u
+      go true v w m e = e
+      go false v w m e = m e
+
+  until-lawful : Lawful d → Lawful (λ s. untilFrom (s .left) test d s)
+  until-lawful l = record {
+    steps = λ s k u e. from-lawful l (s .left) .steps s k u e;
+    allowance = λ j s k u e. from-more j (s .left) (more j s) k (more j u) (from-lawful l (s .left) .allowance j s k u e);
+  }
+
+  from-taking : Taking d → Lawful d → (tries : ℕ) → Taking (untilFrom tries test d)
+  unfolding untilFrom tried
+  from-taking t l zero s k u e = spent-got e
+  from-taking t l (suc tries) s k u e = onward-taking d (tried tries) t (tried-lawful tries (from-lawful l tries)) s k u e
+
+  from-yields : (P : ℕ → Type 0) → Yields P d → (tries : ℕ) → Yields (λ k. (test k ≡ true) × P k) (untilFrom tries test d)
+  unfolding untilFrom
+  from-yields P y zero s k u e = spent-got e
+  from-yields P y (suc tries) s k u e =
+      let p = parts-of (d s) (λ b v. cond (test b) (got b v) (untilFrom tries test d v)) k u e in
+      go (p .value) (p .between) (test (p .value)) refl (y s (p .value) (p .between) (p .first)) (from-yields P y tries (p .between) k u) (p .second)
+    where
+      go : (v : ℕ) (w : Supply) (b : Bool) → test v ≡ b → P v → (untilFrom tries test d w ≡ got k u → (test k ≡ true) × P k)
+          → cond b (got v w) (untilFrom tries test d w) ≡ got k u → (test k ≡ true) × P k
+      go v w true h q m e = let c : v ≡ k = cc in (rw (← c) h, rw (← c) q)
+      go v w false h q m e = m e
+
+-- ---- every number and every program
+
+pub pick-lawful : (d : Number) → Lawful (pick d)
+unfolding pick
+pick-lawful word = word-lawful
+pick-lawful (until test d) = until-lawful test (pick d) (pick-lawful d)
+pick-lawful (map f d) = onward-lawful (pick d) (λ k u. got (f k) u) (pick-lawful d) (λ k. got-lawful (f k))
+
+pub pick-taking : (d : Number) → Taking (pick d)
+unfolding pick
+pick-taking word = word-taking
+pick-taking (until test d) = λ s. from-taking test (pick d) (pick-taking d) (pick-lawful d) (s .left) s
+pick-taking (map f d) = onward-taking (pick d) (λ k u. got (f k) u) (pick-taking d) (λ k. got-lawful (f k))
+
+pub run-lawful : {A : Type 0} (d : Draw A) → Lawful (run d)
+unfolding run
+run-lawful (return a) = got-lawful a
+run-lawful (draws d f) = onward-lawful (pick d) (λ k u. run (f k) u) (pick-lawful d) (λ k. run-lawful (f k))
+
+-- ---- one program after the other, for the code that draws so
+
+pub run-bind : {A B : Type 0} (d : Draw A) (f : A → Draw B) (s : Supply) → run (d >>= f) s ≡ onward (run d s) (λ a u. run (f a) u)
+unfolding run _>>=_ onward
+run-bind (return a) f s = refl
+run-bind (draws d g) f s = go (pick d s) (λ k u. run-bind (g k) f u)
+  where
+    go : (x : Drawn ℕ) → ((k : ℕ) (u : Supply) → run (g k >>= f) u ≡ onward (run (g k) u) (λ a v. run (f a) v))
+        → onward x (λ k u. run (g k >>= f) u) ≡ onward (onward x (λ k u. run (g k) u)) (λ a u. run (f a) u)
+    go spent h = refl
+    go (got k u) h = h k u
+
+module _ {A B : Type 0} (d : Draw A) (f : A → Draw B) (s : Supply) where
+  pub bind-got : (a : A) (u : Supply) → run d s ≡ got a u → run (d >>= f) s ≡ run (f a) u
+  unfolding onward
+  bind-got a u e = run-bind d f s ∙ rw e
+
+  pub bind-spent : run d s ≡ spent → run (d >>= f) s ≡ spent
+  unfolding onward
+  bind-spent e = run-bind d f s ∙ rw e
+
+module _ {A : Type 0} (d : Number) (f : ℕ → Draw A) (s : Supply) where
+  pub draw-got : (k : ℕ) (u : Supply) → pick d s ≡ got k u → run (draw d >>= f) s ≡ run (f k) u
+  unfolding draw _>>=_ run onward
+  draw-got k u e = rw e
+
+  pub draw-spent : pick d s ≡ spent → run (draw d >>= f) s ≡ spent
+  unfolding draw _>>=_ run onward
+  draw-spent e = rw e
+
+-- ---- a number drawn again, for loops
+
+starved : (d : Number) (s : Supply) → s .left ≤ 0 → pick d s ≡ spent
+starved d s h = go (pick d s) refl
+  where
+    go : (x : Drawn ℕ) → pick d s ≡ x → x ≡ spent
+    go spent e = refl
+    go (got k u) e = absurd (let z = pick-taking d s k u e in omega arith)
+
+module _ (test : ℕ → Bool) (d : Number) where
+  -- as many tries as draws are left are enough
+  enough : (i j : ℕ) (s : Supply) → s .left ≤ i → s .left ≤ j → untilFrom i test (pick d) s ≡ untilFrom j test (pick d) s
+  unfolding untilFrom onward
+  enough zero zero s h k = refl
+  enough zero (suc j) s h k = rw (starved d s h)
+  enough (suc i) zero s h k = rw (starved d s k)
+  enough (suc i) (suc j) s h k = go (pick d s) refl (enough i j)
+    where
+      go : (x : Drawn ℕ) → pick d s ≡ x → ((u : Supply) → u .left ≤ i → u .left ≤ j → untilFrom i test (pick d) u ≡ untilFrom j test (pick d) u)
+          → onward x (λ a u. cond (test a) (got a u) (untilFrom i test (pick d) u)) ≡ onward x (λ a u. cond (test a) (got a u) (untilFrom j test (pick d) u))
+      go spent e m = refl
+      go (got a u) e m = let z = pick-taking d s a u e in rw (m u (omega arith) (omega arith))
+
+  once : (s : Supply) → pick (until test d) s ≡ onward (pick d s) (λ a u. cond (test a) (got a u) (untilFrom (s .left) test (pick d) u))
+  unfolding pick untilFrom
+  once s = enough (s .left) (suc (s .left)) s (omega arith) (omega arith)
+
+  pub until-spent : (s : Supply) → pick d s ≡ spent → pick (until test d) s ≡ spent
+  unfolding onward
+  until-spent s e = once s ∙ rw e
+
+  pub until-found : (s : Supply) (k : ℕ) (u : Supply) → pick d s ≡ got k u → test k ≡ true → pick (until test d) s ≡ got k u
+  unfolding onward
+  until-found s k u e h = once s ∙ rw (e, h)
+
+  pub until-again : (s : Supply) (k : ℕ) (u : Supply) → pick d s ≡ got k u → test k ≡ false → pick (until test d) s ≡ pick (until test d) u
+  unfolding onward pick
+  until-again s k u e h = let z = pick-taking d s k u e in once s ∙ rw (e, h) (enough (s .left) (u .left) u (omega arith) (omega arith))
+
+-- ---- what is drawn is in range
+
+pub word-yields : Yields (λ w. w < 2 ^ 64) (pick word)
+unfolding pick wordOf output
+word-yields s w u e = let p = one-word (s .left) (s .random) w u e .2 in rw p (mod-lt _ (lit< tt))
+
+pub until-yields : (P : ℕ → Type 0) (test : ℕ → Bool) (d : Number) → Yields P (pick d) → Yields (λ k. (test k ≡ true) × P k) (pick (until test d))
+unfolding pick
+until-yields P test d y s = from-yields test (pick d) P y (s .left) s
+
+pub map-yields : (P Q : ℕ → Type 0) (f : ℕ → ℕ) (d : Number) → Yields P (pick d) → ((k : ℕ) → P k → Q (f k)) → Yields Q (pick (map f d))
+unfolding pick
+map-yields P Q f d y h = onward-yields P Q (pick d) (λ k u. got (f k) u) y (λ k p. got-yields Q (f k) (h k p))
+
+pub return-yields : {A : Type 0} (P : A → Type 0) (a : A) → P a → Yields P (run (return a))
+unfolding run
+return-yields P a = got-yields P a
+
+pub draws-yields : {A : Type 0} (P : ℕ → Type 0) (Q : A → Type 0) (d : Number) (f : ℕ → Draw A) → Yields P (pick d) → ((k : ℕ) → P k → Yields Q (run (f k))) → Yields Q (run (draws d f))
+unfolding run
+draws-yields P Q d f y h = onward-yields P Q (pick d) (λ k u. run (f k) u) y h
+
+pub bind-yields : {A B : Type 0} (P : A → Type 0) (Q : B → Type 0) (d : Draw A) (f : A → Draw B) → Yields P (run d) → ((a : A) → P a → Yields Q (run (f a))) → Yields Q (run (d >>= f))
+bind-yields P Q d f y h s b u e = onward-yields P Q (run d) (λ a v. run (f a) v) y h s b u (sym (run-bind d f s) ∙ e)
+
+-- the high word of a draw times n is below n
+high-lt : (n w : ℕ) → 0 < n → w < 2 ^ 64 → w * n / 2 ^ 64 < n
+high-lt n w hn hw = div-lt-iff-lt-mul (lit< tt) .1 (subst (λ (x : ℕ). w * n < x) (mul-comm (2 ^ 64) n) (mul-lt-mul-of-pos-right hw hn))
+
+pub below-yields : (n : ℕ) → 0 < n → Yields (λ k. k < n) (pick (below n))
+unfolding below
+below-yields n h = map-yields _ (λ k. k < n) (λ w. w * n / 2 ^ 64) (until (fair n) word) (until-yields _ (fair n) word word-yields) (λ w p. high-lt n w h (p .1))
+
+pub uniform-yields : Yields (λ x. lt x (fin false 1 (pos 0)) ≡ true) (run uniform)
+unfolding uniform
+uniform-yields = draws-yields _ _ word _ word-yields (λ w p. return-yields (λ x. lt x (fin false 1 (pos 0)) ≡ true) (uniformOf w) (uniform-lt-one w p))

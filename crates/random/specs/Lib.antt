@@ -1,0 +1,10 @@
+-- The definitions that the contracts of random cite, and the laws of these definitions.
+pub mod SplitMix
+pub mod Xoshiro
+pub mod Generator
+pub mod Draw
+pub mod BelowCall
+pub mod UniformLaws
+pub mod DrawLaws
+pub mod SupplyLaws
+pub mod Rows
