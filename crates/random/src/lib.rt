@@ -17,6 +17,7 @@ use words::wrapping_mul;
 
 // The largest n of `below` is 2^32, the largest allowance 65,535.
 const LARGEST_N: usize = 0x1_0000_0000;
+
 const LARGEST_ALLOWANCE: u32 = 65535;
 
 // The generator. All four words may be zero.
@@ -141,8 +142,7 @@ impl Random {
             let d = Supply {
                 random: self,
                 left: allowance,
-            }
-            .below(n);
+            }.below(n);
             if d.ok {
                 let supply = d.supply;
                 let random = supply.random;
@@ -281,7 +281,10 @@ impl Supply {
         DrawnReal {
             ok: true,
             value: u.value,
-            supply: Supply { random, left: left - 1 },
+            supply: Supply {
+                random,
+                left: left - 1,
+            },
         }
     }
 
@@ -302,7 +305,10 @@ impl Supply {
         DrawnSide {
             ok: true,
             value: c.value,
-            supply: Supply { random, left: left - 1 },
+            supply: Supply {
+                random,
+                left: left - 1,
+            },
         }
     }
 }

@@ -39,7 +39,7 @@ returns c =
       c .before .wrapping-add-u642 .ensures,
       c .before .before .rotate-left .ensures,
       c .before .before .before .wrapping-add-u64 .ensures,
-      c .rotate-left2 .ensures
+      c .rotate-left2 .ensures,
     )
 
 pub next-u64-spec : {M : Type 1} → statement M
