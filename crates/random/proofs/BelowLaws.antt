@@ -1,12 +1,12 @@
 -- The ways through the code that draws below n: no draw is left, a draw is taken, a draw is passed over. Assumes nothing.
-use mathlib.Core.Path.{_≡_, refl, sym, ap, _∙_}
+use mathlib.Core.Path.{_≡_, sym, ap, _∙_}
 use mathlib.Core.Bool.{Bool, true, false}
 use Prim.Native.Nat.{ℕ, _-_, _*_, _/_, _%_, _^_, _≤_, _<_}
 use lib.Dec.{leb}
 use Rattle.words.specs.declared.Wide.{Wide}
 use Rattle.words.specs.Words.{twoWords}
 use Rattle.random.specs.Generator.{drawnWord}
-use Rattle.random.specs.Draw.{word, until, fair, below, Drawn, spent, got, onward, pick, supplyOf, drawnNumber}
+use Rattle.random.specs.Draw.{word, fair, below, Drawn, got, onward, pick, supplyOf, drawnNumber}
 use Rattle.random.specs.DrawLaws.{until-spent, until-found, until-again}
 use Rattle.random.specs.SupplyLaws.{word-none, word-one}
 use Rattle.random.specs.declared.Random.{Random}

@@ -1,17 +1,14 @@
 -- The ways through the code of `Random::below`: a parameter is outside its limits, the draws are spent, a number is drawn. Assumes nothing.
-use mathlib.Core.Path.{_≡_, refl, sym, ap, _∙_}
+use mathlib.Core.Path.{_≡_, sym, _∙_}
 use mathlib.Core.Bool.{Bool, true, false, _&&_}
-use Prim.Native.Nat.{ℕ, _-_, _^_, _≤_}
-use native.Mathlib.Omega.{arith}
-use lib.Dec.{leb}
-use borrow.Author.Tests.{leb-true}
+use Prim.Native.Nat.{ℕ, _-_, _≤_}
 use Rattle.answer.specs.declared.Refusal.the-variants.{Parameter, Allowance}
 use Rattle.random.specs.Draw.{below, pick, countable, Countable, allowed, supplyOf, drawnNumber}
-use Rattle.random.specs.BelowCall.{turnedBack, ended, belowCall}
+use Rattle.random.specs.BelowCall.{turnedBack, belowCall}
 use Rattle.random.specs.DrawLaws.{pick-lawful}
+use Rattle.random.specs.LimitLaws.{both-true, countable-true}
 use Rattle.random.specs.SupplyLaws.{number-got, number-spent}
 use Rattle.random.specs.declared.Random.{Random}
-use Rattle.random.specs.declared.DrawnBelow.{DrawnBelow}
 use Rattle.random.specs.declared.Below.the-variants as Answers
 use Rattle.random.specs.declared.DrawnNumber.{DrawnNumber}
 
@@ -31,17 +28,9 @@ module _ (g : Random) (n allowance : ℕ) (b : Bool) (eb : b ≡ countable n && 
     unfolding belowCall
     call-drawn k = rw (← eb, t, number-got (supplyOf g allowance) d (pick (below n) (supplyOf g allowance)) ed k)
 
--- what the calls and sums in it ask
-both-true : (a b : Bool) → a && b ≡ true → (a ≡ true) × (b ≡ true)
-both-true true true e = (refl, refl)
-both-true true false e = (refl, e)
-both-true false b e = let z : _≡_ {A = ℕ} 0 1 = cc in absurd (omega arith)
-
+-- what the call and the difference in it ask
 pub call-countable : (n allowance : ℕ) (b : Bool) → b ≡ countable n && allowed allowance → b ≡ true → Countable n
-call-countable n allowance b e t =
-    let both = both-true (countable n) (allowed allowance) (sym e ∙ t) .0 in
-    let each = both-true (leb 1 n) (leb n (2 ^ 32)) both in
-    record { some = leb-true 1 n (each .0); few = leb-true n (2 ^ 32) (each .1) }
+call-countable n allowance b e t = countable-true n (both-true (countable n) (allowed allowance) (sym e ∙ t) .0)
 
 pub call-left : (g : Random) (n allowance : ℕ) (d : DrawnNumber) → d ≡ drawnNumber (supplyOf g allowance) (pick (below n) (supplyOf g allowance)) → d .ok ≡ true → d .supply .left ≤ allowance
 call-left g n allowance d e t = pick-lawful (below n) .steps (supplyOf g allowance) (d .value) (d .supply) (number-got (supplyOf g allowance) d (pick (below n) (supplyOf g allowance)) e t) .fewer

@@ -1,5 +1,5 @@
 -- The laws that the proofs of random share: one for each way through a function.
-mod LimitLaws
+mod TestLaws
 mod BelowLaws
 mod TakenLaws
 mod CallLaws

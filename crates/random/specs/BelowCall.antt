@@ -5,7 +5,6 @@ use Rattle.answer.specs.declared.Refusal.{Refusal}
 use Rattle.answer.specs.declared.Refusal.the-variants.{Parameter, Allowance}
 use Rattle.random.specs.Draw.{Drawn, spent, got, below, pick, countable, allowed, supplyOf}
 use Rattle.random.specs.declared.Random.{Random}
-use Rattle.random.specs.declared.Below.{Below}
 use Rattle.random.specs.declared.Below.the-variants as Answers
 use Rattle.random.specs.declared.DrawnBelow.{DrawnBelow}
 

@@ -1,45 +1,20 @@
--- The laws of programs of draws. In order: what a lawful run is; that every number and every program runs lawfully (`pick-lawful`,
--- `run-lawful`) and that a number takes a draw (`pick-taking`), by induction on numbers and programs; what is drawn is in range (`Yields`);
--- how a program made by `_>>=_` runs, for the code that draws one value after the other; how a number is drawn again, for loops.
--- The laws on the code's own structs are in SupplyLaws. Assumes nothing.
+-- The laws of programs of draws. In order: every number and every program runs lawfully (`pick-lawful`, `run-lawful`) and a number takes a
+-- draw (`pick-taking`), by induction on numbers and programs; how a program made by `_>>=_` runs, for code that draws one value after the
+-- other; how a number is drawn again, for loops; and what is drawn is in range (`word-yields` and on). What these laws say is defined in
+-- Lawful, and the laws on the code's own structs are in SupplyLaws. Assumes nothing.
 use mathlib.Core.Path.{_≡_, refl, sym, ap, _∙_, subst}
 use mathlib.Core.Bool.{Bool, true, false, cond}
-use Prim.Native.Nat.{ℕ, zero, suc, _+_, _-_, _*_, _/_, _%_, _^_, _≤_, _<_}
+use Prim.Native.Nat.{ℕ, zero, suc, _+_, _-_, _*_, _/_, _^_, _≤_, _<_}
 use native.Mathlib.Nat.{div-lt-iff-lt-mul, mul-lt-mul-of-pos-right, mul-comm, mod-lt}
 use native.Mathlib.Omega.{arith}
 use lib.Dec.{lit<}
-use lib.Ieee.{Float, fin, lt}
-use lib.IntN.{pos}
 use Rattle.random.specs.Xoshiro.{output}
 use Rattle.random.specs.Generator.{wordOf, next, after, uniformOf}
-use Rattle.random.specs.UniformLaws.{uniform-lt-one}
+use Rattle.random.specs.UniformLaws.{UnitFraction, uniform-unit}
 use Rattle.random.specs.Draw.{Number, word, until, map, Draw, return, draws, draw, _>>=_, uniform, fair, below, Drawn, spent, got, onward, wordFrom, untilFrom, pick, run}
+use Rattle.random.specs.Lawful.{more, Stepped, Lawful, Taking, Yields}
 use Rattle.random.specs.declared.Random.{Random}
 use Rattle.random.specs.declared.Supply.{Supply}
-
--- ---- lawful runs
-
--- a supply with k more draws
-abbrev pub more : ℕ → Supply → Supply
-more k s = record { random = s .random; left = s .left + k }
-
--- from the supply s to the supply u: the generator is stepped as often as draws were made
-pub record Stepped (s u : Supply) : Type 0 where
-  pub fewer : u .left ≤ s .left
-  pub moved : u .random ≡ after (s .left - u .left) (s .random)
-
--- steps: a value leaves the generator stepped as often as draws were made; allowance: more draws change nothing where the draws were not spent
-pub record Lawful {A : Type 0} (d : Supply → Drawn A) : Type 0 where
-  pub steps : (s : Supply) (a : A) (u : Supply) → d s ≡ got a u → Stepped s u
-  pub allowance : (k : ℕ) (s : Supply) (a : A) (u : Supply) → d s ≡ got a u → d (more k s) ≡ got a (more k u)
-
--- a value takes a draw or more
-abbrev pub Taking : {A : Type 0} → (Supply → Drawn A) → Type 0
-Taking {A} d = (s : Supply) (a : A) (u : Supply) → d s ≡ got a u → u .left < s .left
-
--- a value satisfies P
-abbrev pub Yields : {A : Type 0} → (A → Type 0) → (Supply → Drawn A) → Type 0
-Yields {A} P d = (s : Supply) (a : A) (u : Supply) → d s ≡ got a u → P a
 
 -- ---- steps in a row
 
@@ -77,12 +52,26 @@ unfolding onward
 parts-of spent f b u e = spent-got e
 parts-of (got a s) f b u e = record { value = a; between = s; first = refl; second = e }
 
+-- a supply of k draws or more is one with k more than another
+abbrev less : ℕ → Supply → Supply
+less k s = record { random = s .random; left = s .left - k }
+
+more-less : (k : ℕ) (s : Supply) → k ≤ s .left → more k (less k s) ≡ s
+more-less k s h = let e : s .left - k + k ≡ s .left = omega arith in λ i. record { random = s .random; left = e i }
+
+more-cancel : (k : ℕ) (s u : Supply) → more k s ≡ more k u → s ≡ u
+more-cancel k s u e =
+    let h = ap (λ (x : Supply). x .left) e in
+    let l : s .left ≡ u .left = omega arith in
+    λ i. record { random = e i .random; left = l i }
+
 -- ---- lawful runs are kept by what programs are made of
 
 got-lawful : {A : Type 0} (a : A) → Lawful (got a)
 got-lawful a = record {
   steps = λ s b u e. subst (λ (x : Supply). Stepped s x) (cc) (stepped-refl s);
   allowance = λ k s b u e. (let p : a ≡ b = cc in let q : s ≡ u = cc in λ i. got (p i) (more k (q i)));
+  spare = λ k s b u e. (let p : a ≡ b = cc in let q : more k s ≡ more k u = cc in λ i. got (p i) (more-cancel k s u q i));
 }
 
 onward-lawful : {A B : Type 0} (d : Supply → Drawn A) (f : A → Supply → Drawn B) → Lawful d → ((a : A) → Lawful (f a)) → Lawful (λ s. onward (d s) f)
@@ -91,6 +80,11 @@ onward-lawful d f l m = record {
   steps = λ s b u e. (let p = parts-of (d s) f b u e in stepped-trans (l .steps s (p .value) (p .between) (p .first)) (m (p .value) .steps (p .between) b u (p .second)));
   allowance = λ k s b u e. (let p = parts-of (d s) f b u e in
       rw (l .allowance k s (p .value) (p .between) (p .first)) (m (p .value) .allowance k (p .between) b u (p .second)));
+  spare = λ k s b u e. (let p = parts-of (d (more k s)) f b (more k u) e in
+      let h = m (p .value) .steps (p .between) b (more k u) (p .second) .fewer in
+      let q = more-less k (p .between) (omega arith) in
+      rw (l .spare k s (p .value) (less k (p .between)) (p .first ∙ ap (got (p .value)) (sym q)))
+      (m (p .value) .spare k (less k (p .between)) b u (ap (f (p .value)) q ∙ p .second)));
 }
 
 onward-taking : {A B : Type 0} (d : Supply → Drawn A) (f : A → Supply → Drawn B) → Taking d → ((a : A) → Lawful (f a)) → Taking (λ s. onward (d s) f)
@@ -122,6 +116,14 @@ word-more k (suc left) g w u e =
     let q : _≡_ {A = Supply} (record { random = next g; left = left }) u = cc in
     rw x (λ i. got (p i) (more k (q i)))
 
+word-spare : (k left : ℕ) (g : Random) (w : ℕ) (u : Supply) → wordFrom (left + k) g ≡ got w (more k u) → wordFrom left g ≡ got w u
+unfolding wordFrom
+word-spare k left g w u e =
+    let p = one-word (left + k) g w (more k u) e in
+    let n = p .0 in
+    let z : left ≡ suc (u .left) = omega arith in
+    rw z (sym (λ i. got (p .2 i) (record { random = p .1 i; left = u .left })))
+
 word-lawful : Lawful (λ s. wordFrom (s .left) (s .random))
 unfolding after
 word-lawful = record {
@@ -130,6 +132,7 @@ word-lawful = record {
     moved = p .1 ∙ ap (λ (m : ℕ). after m (s .random)) one;
   });
   allowance = λ k s w u e. word-more k (s .left) (s .random) w u e;
+  spare = λ k s w u e. word-spare k (s .left) (s .random) w u e;
 }
 
 word-taking : Taking (λ s. wordFrom (s .left) (s .random))
@@ -150,27 +153,34 @@ module _ (test : ℕ → Bool) (d : Supply → Drawn ℕ) where
 
   from-lawful : Lawful d → (tries : ℕ) → Lawful (untilFrom tries test d)
   unfolding untilFrom tried
-  from-lawful l zero = record { steps = λ s k u e. spent-got e; allowance = λ j s k u e. spent-got e }
+  from-lawful l zero = record { steps = λ s k u e. spent-got e; allowance = λ j s k u e. spent-got e; spare = λ j s k u e. spent-got e }
   from-lawful l (suc tries) = onward-lawful d (tried tries) l (tried-lawful tries (from-lawful l tries))
 
-  -- more tries change nothing
-  from-more : (j tries : ℕ) (s : Supply) (k : ℕ) (u : Supply) → untilFrom tries test d s ≡ got k u → untilFrom (tries + j) test d s ≡ got k u
-  unfolding untilFrom onward
-  from-more j zero s k u e = spent-got e
-  from-more j (suc tries) s k u e =
-      let p = parts-of (d s) (λ b v. cond (test b) (got b v) (untilFrom tries test d v)) k u e in
-      let g : suc tries + j ≡ suc (tries + j) = omega arith in
-      rw (g, p .first) (go (test (p .value)) (p .value) (p .between) (from-more j tries (p .between) k u) (p .second))
+  starved : Taking d → (s : Supply) → s .left ≤ 0 → d s ≡ spent
+  starved t s h = go (d s) refl
     where
-      go : (b : Bool) (v : ℕ) (w : Supply) → (untilFrom tries test d w ≡ got k u → untilFrom (tries + j) test d w ≡ got k u)
-          → cond b (got v w) (untilFrom tries test d w) ≡ got k u → cond b (got v w) (untilFrom (tries + j) test d w) ≡ got k u
-      go true v w m e = e
-      go false v w m e = m e
+      go : (x : Drawn ℕ) → d s ≡ x → x ≡ spent
+      go spent e = refl
+      go (got k u) e = absurd (let z = t s k u e in omega arith)
 
-  until-lawful : Lawful d → Lawful (λ s. untilFrom (s .left) test d s)
-  until-lawful l = record {
+  -- as many tries as draws are left are enough
+  enough : Taking d → (i j : ℕ) (s : Supply) → s .left ≤ i → s .left ≤ j → untilFrom i test d s ≡ untilFrom j test d s
+  unfolding untilFrom onward
+  enough t zero zero s h k = refl
+  enough t zero (suc j) s h k = rw (starved t s h)
+  enough t (suc i) zero s h k = rw (starved t s k)
+  enough t (suc i) (suc j) s h k = go (d s) refl (enough t i j)
+    where
+      go : (x : Drawn ℕ) → d s ≡ x → ((u : Supply) → u .left ≤ i → u .left ≤ j → untilFrom i test d u ≡ untilFrom j test d u)
+          → onward x (λ a u. cond (test a) (got a u) (untilFrom i test d u)) ≡ onward x (λ a u. cond (test a) (got a u) (untilFrom j test d u))
+      go spent e m = refl
+      go (got a u) e m = let z = t s a u e in rw (m u (omega arith) (omega arith))
+
+  until-lawful : Taking d → Lawful d → Lawful (λ s. untilFrom (s .left) test d s)
+  until-lawful t l = record {
     steps = λ s k u e. from-lawful l (s .left) .steps s k u e;
-    allowance = λ j s k u e. from-more j (s .left) (more j s) k (more j u) (from-lawful l (s .left) .allowance j s k u e);
+    allowance = λ j s k u e. from-lawful l (s .left + j) .allowance j s k u (enough t (s .left + j) (s .left) s (omega arith) (omega arith) ∙ e);
+    spare = λ j s k u e. enough t (s .left) (s .left + j) s (omega arith) (omega arith) ∙ from-lawful l (s .left + j) .spare j s k u e;
   }
 
   from-taking : Taking d → Lawful d → (tries : ℕ) → Taking (untilFrom tries test d)
@@ -192,17 +202,27 @@ module _ (test : ℕ → Bool) (d : Supply → Drawn ℕ) where
 
 -- ---- every number and every program
 
-pub pick-lawful : (d : Number) → Lawful (pick d)
+record Picked (d : Number) : Type 0 where
+  lawful : Lawful (pick d)
+  taking : Taking (pick d)
+
+picked : (d : Number) → Picked d
 unfolding pick
-pick-lawful word = word-lawful
-pick-lawful (until test d) = until-lawful test (pick d) (pick-lawful d)
-pick-lawful (map f d) = onward-lawful (pick d) (λ k u. got (f k) u) (pick-lawful d) (λ k. got-lawful (f k))
+picked word = record { lawful = word-lawful; taking = word-taking }
+picked (until test d) = record {
+  lawful = until-lawful test (pick d) (picked d .taking) (picked d .lawful);
+  taking = λ s. from-taking test (pick d) (picked d .taking) (picked d .lawful) (s .left) s;
+}
+picked (map f d) = record {
+  lawful = onward-lawful (pick d) (λ k u. got (f k) u) (picked d .lawful) (λ k. got-lawful (f k));
+  taking = onward-taking (pick d) (λ k u. got (f k) u) (picked d .taking) (λ k. got-lawful (f k));
+}
+
+pub pick-lawful : (d : Number) → Lawful (pick d)
+pick-lawful d = picked d .lawful
 
 pub pick-taking : (d : Number) → Taking (pick d)
-unfolding pick
-pick-taking word = word-taking
-pick-taking (until test d) = λ s. from-taking test (pick d) (pick-taking d) (pick-lawful d) (s .left) s
-pick-taking (map f d) = onward-taking (pick d) (λ k u. got (f k) u) (pick-taking d) (λ k. got-lawful (f k))
+pick-taking d = picked d .taking
 
 pub run-lawful : {A : Type 0} (d : Draw A) → Lawful (run d)
 unfolding run
@@ -241,30 +261,10 @@ module _ {A : Type 0} (d : Number) (f : ℕ → Draw A) (s : Supply) where
 
 -- ---- a number drawn again, for loops
 
-starved : (d : Number) (s : Supply) → s .left ≤ 0 → pick d s ≡ spent
-starved d s h = go (pick d s) refl
-  where
-    go : (x : Drawn ℕ) → pick d s ≡ x → x ≡ spent
-    go spent e = refl
-    go (got k u) e = absurd (let z = pick-taking d s k u e in omega arith)
-
 module _ (test : ℕ → Bool) (d : Number) where
-  -- as many tries as draws are left are enough
-  enough : (i j : ℕ) (s : Supply) → s .left ≤ i → s .left ≤ j → untilFrom i test (pick d) s ≡ untilFrom j test (pick d) s
-  unfolding untilFrom onward
-  enough zero zero s h k = refl
-  enough zero (suc j) s h k = rw (starved d s h)
-  enough (suc i) zero s h k = rw (starved d s k)
-  enough (suc i) (suc j) s h k = go (pick d s) refl (enough i j)
-    where
-      go : (x : Drawn ℕ) → pick d s ≡ x → ((u : Supply) → u .left ≤ i → u .left ≤ j → untilFrom i test (pick d) u ≡ untilFrom j test (pick d) u)
-          → onward x (λ a u. cond (test a) (got a u) (untilFrom i test (pick d) u)) ≡ onward x (λ a u. cond (test a) (got a u) (untilFrom j test (pick d) u))
-      go spent e m = refl
-      go (got a u) e m = let z = pick-taking d s a u e in rw (m u (omega arith) (omega arith))
-
   once : (s : Supply) → pick (until test d) s ≡ onward (pick d s) (λ a u. cond (test a) (got a u) (untilFrom (s .left) test (pick d) u))
   unfolding pick untilFrom
-  once s = enough (s .left) (suc (s .left)) s (omega arith) (omega arith)
+  once s = enough test (pick d) (pick-taking d) (s .left) (suc (s .left)) s (omega arith) (omega arith)
 
   pub until-spent : (s : Supply) → pick d s ≡ spent → pick (until test d) s ≡ spent
   unfolding onward
@@ -276,7 +276,7 @@ module _ (test : ℕ → Bool) (d : Number) where
 
   pub until-again : (s : Supply) (k : ℕ) (u : Supply) → pick d s ≡ got k u → test k ≡ false → pick (until test d) s ≡ pick (until test d) u
   unfolding onward pick
-  until-again s k u e h = let z = pick-taking d s k u e in once s ∙ rw (e, h) (enough (s .left) (u .left) u (omega arith) (omega arith))
+  until-again s k u e h = let z = pick-taking d s k u e in once s ∙ rw (e, h) (enough test (pick d) (pick-taking d) (s .left) (u .left) u (omega arith) (omega arith))
 
 -- ---- what is drawn is in range
 
@@ -311,6 +311,6 @@ pub below-yields : (n : ℕ) → 0 < n → Yields (λ k. k < n) (pick (below n))
 unfolding below
 below-yields n h = map-yields _ (λ k. k < n) (λ w. w * n / 2 ^ 64) (until (fair n) word) (until-yields _ (fair n) word word-yields) (λ w p. high-lt n w h (p .1))
 
-pub uniform-yields : Yields (λ x. lt x (fin false 1 (pos 0)) ≡ true) (run uniform)
+pub uniform-yields : Yields UnitFraction (run uniform)
 unfolding uniform
-uniform-yields = draws-yields _ _ word _ word-yields (λ w p. return-yields (λ x. lt x (fin false 1 (pos 0)) ≡ true) (uniformOf w) (uniform-lt-one w p))
+uniform-yields = draws-yields _ _ word _ word-yields (λ w p. return-yields UnitFraction (uniformOf w) (uniform-unit w p))

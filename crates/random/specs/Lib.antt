@@ -4,7 +4,10 @@ pub mod Xoshiro
 pub mod Generator
 pub mod Draw
 pub mod BelowCall
+pub mod Lawful
+pub mod LimitLaws
 pub mod UniformLaws
 pub mod DrawLaws
 pub mod SupplyLaws
+pub mod BelowCallLaws
 pub mod Rows

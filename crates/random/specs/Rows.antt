@@ -1,15 +1,13 @@
 -- The starred rows of document 01's "Tree F" on the generator, as one record, which the statement of all starred rows can hold as a field.
 -- Assumes nothing.
-use mathlib.Core.Path.{_≡_, refl, ap}
-use mathlib.Core.Bool.{true, false}
+use mathlib.Core.Path.{_≡_, refl}
+use mathlib.Core.Bool.{false}
 use mathlib.Core.List.{[], _∷_}
-use Prim.Native.Nat.{ℕ, zero, suc, _+_, _-_, _*_, _/_, _%_, _^_, _≤_}
+use Prim.Native.Nat.{ℕ, zero, suc, _-_, _≤_}
 use native.Mathlib.Omega.{arith}
-use lib.Bits.{bitXor}
 use lib.Count.{trailingZeros}
 use lib.IntN.{negsuc}
 use lib.Ieee.{fin, round, units, odd, size, span, climb}
-use borrow.Author.Tests.{le-leb}
 use Rattle.words.specs.Words.{rotl}
 use Rattle.answer.specs.declared.Refusal.{Refusal}
 use Rattle.answer.specs.declared.Refusal.the-variants.{Allowance}
@@ -18,6 +16,7 @@ use Rattle.random.specs.Xoshiro.{output, step, stepped}
 use Rattle.random.specs.Generator.{fromState, wordOf, next, uniformOf}
 use Rattle.random.specs.Draw.{word, fair, below, Drawn, spent, got, onward, wordFrom, untilFrom, pick, supplyOf}
 use Rattle.random.specs.BelowCall.{turnedBack, belowCall}
+use Rattle.random.specs.LimitLaws.{between-true}
 use Rattle.random.specs.declared.Random.{Random}
 use Rattle.random.specs.declared.Below.the-variants as Answers
 
@@ -67,13 +66,13 @@ unfolding belowCall
 drawn-4 zero h k = absurd (omega arith)
 drawn-4 (suc left) h k =
     let one : suc left - left ≡ 1 = omega arith in
-    rw (le-leb _ _ h, le-leb _ _ k, first-below-4 left, one)
+    rw (between-true 1 65535 (suc left) h k, first-below-4 left, one)
 
 refused-3 : (allowance : ℕ) → 1 ≤ allowance → allowance ≤ 65535 → RefusedWith 6 allowance zeros 3 allowance
 unfolding belowCall
 refused-3 allowance h k = record {
   why = Allowance allowance;
-  answer = rw (le-leb _ _ h, le-leb _ _ k, never-below-3 allowance);
+  answer = rw (between-true 1 65535 allowance h k, never-below-3 allowance);
   numbered = refl;
   detailed = refl;
 }

@@ -1,10 +1,10 @@
 -- Laws that join the code's structs to the definitions: one draw from a supply, and what a drawn number says of its definition. Assumes nothing.
 use mathlib.Core.Path.{_≡_, refl, sym, ap, _∙_}
 use mathlib.Core.Bool.{true, false, true≢false}
-use Prim.Native.Nat.{ℕ, zero, suc, _-_, _≤_, _<_}
+use Prim.Native.Nat.{ℕ, suc, _-_, _≤_, _<_}
 use native.Mathlib.Omega.{arith}
 use Rattle.random.specs.Generator.{wordOf, next}
-use Rattle.random.specs.Draw.{word, Draw, return, draws, Drawn, spent, got, onward, wordFrom, pick, run, supplyOf, drawnNumber}
+use Rattle.random.specs.Draw.{word, return, draws, Drawn, spent, got, onward, wordFrom, pick, run, supplyOf, drawnNumber}
 use Rattle.random.specs.declared.Random.{Random}
 use Rattle.random.specs.declared.Supply.{Supply}
 use Rattle.random.specs.declared.DrawnNumber.{DrawnNumber}

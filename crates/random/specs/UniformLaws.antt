@@ -1,4 +1,5 @@
--- A uniform is exact: its value is the draw's top 53 bits over 2 ^ 53, and it is below 1. The quotient of the two floats is that value too.
+-- A uniform is exact: its value is the draw's top 53 bits over 2 ^ 53 (`uniform-exact`), and it is below 1 (`unit-lt-one`).
+-- The quotient of the two floats, as the code forms it, is that uniform (`uniform-quotient`).
 -- Assumes nothing.
 use mathlib.Core.Path.{_≡_, sym, ap, _∙_}
 use mathlib.Core.Bool.{Bool, true, false, true≢false}
@@ -19,7 +20,13 @@ use Rattle.random.specs.Generator.{uniformOf}
 top-lt : (w : ℕ) → w < 2 ^ 64 → w / 2 ^ 11 < 2 ^ 53
 top-lt w h = shr-lt 53 11 h
 
--- the value of a draw's uniform is the fraction
+-- x is exactly a numerator below 2 ^ 53 over 2 ^ 53
+pub record UnitFraction (x : Float) : Type 0 where
+  pub numerator : ℕ
+  pub small : numerator < 2 ^ 53
+  pub exact : HasValue x false numerator (2 ^ 53)
+
+-- the value of a draw's uniform is the draw's top 53 bits over 2 ^ 53
 pub uniform-exact : (w : ℕ) → w < 2 ^ 64 → HasValue (uniformOf w) false (w / 2 ^ 11) (2 ^ 53)
 unfolding uniformOf
 uniform-exact w h =
@@ -36,8 +43,11 @@ fraction-lt-one (fin false k e) m h v =
     let p : m * down e < 2 ^ 53 * down e = mul-lt-mul-of-pos-right h (down-pos e) in
     lt-ltb (k * up e * 1) (1 * down e) (omega (arith, v .1))
 
-pub uniform-lt-one : (w : ℕ) → w < 2 ^ 64 → lt (uniformOf w) (fin false 1 (pos 0)) ≡ true
-uniform-lt-one w h = fraction-lt-one (uniformOf w) (w / 2 ^ 11) (top-lt w h) (uniform-exact w h)
+pub unit-lt-one : (x : Float) → UnitFraction x → lt x (fin false 1 (pos 0)) ≡ true
+unit-lt-one x u = fraction-lt-one x (u .numerator) (u .small) (u .exact)
+
+pub uniform-unit : (w : ℕ) → w < 2 ^ 64 → UnitFraction (uniformOf w)
+uniform-unit w h = record { numerator = w / 2 ^ 11; small = top-lt w h; exact = uniform-exact w h }
 
 -- ---- the quotient that the code forms
 

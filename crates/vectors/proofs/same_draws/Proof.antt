@@ -1,3 +1,4 @@
+-- `vectors::same_draws` meets its contract. Assumes nothing.
 use mathlib.Core.Logic.{⊎-elim}
 use Prim.Native.Nat.{_≤_, _-_}
 use native.Mathlib.Omega.{arith}
@@ -5,9 +6,6 @@ use lib.ListN.{length}
 use borrow.Author.Needs.{needs}
 use Rattle.vectors.proofs.same_draws.Statement.{statement}
 use Rattle.vectors.proofs.same_draws.Tie as tie
-use Rattle.vectors.proofs.same_draws.Reads as reads
-use Rattle.vectors.proofs.same_draws.Lts as lts
-use Rattle.random.proofs.Random.next_u64.Reads as next-u64-reads
 
 abbrev Inv-loop : tie.InvT-loop
 Inv-loop published random₀ same₀ i₀ i-end random same i = (i-end ≤ length published) × (i ≤ i-end) × (same ≤ i)

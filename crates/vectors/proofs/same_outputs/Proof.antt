@@ -1,3 +1,4 @@
+-- `vectors::same_outputs` meets its contract. Assumes nothing.
 use mathlib.Core.Logic.{⊎-elim}
 use Prim.Native.Nat.{_≤_, _-_}
 use native.Mathlib.Omega.{arith}
@@ -5,11 +6,6 @@ use lib.ListN.{length}
 use borrow.Author.Needs.{needs}
 use Rattle.vectors.proofs.same_outputs.Statement.{statement}
 use Rattle.vectors.proofs.same_outputs.Tie as tie
-use Rattle.vectors.proofs.same_outputs.Reads as reads
-use Rattle.vectors.proofs.same_outputs.Lts as lts
-use Rattle.random.proofs.Random.new.Reads as new-reads
-use Rattle.random.proofs.Random.state.Reads as state-reads
-use Rattle.vectors.proofs.four_on.Reads as four-on-reads
 
 abbrev Inv-loop : tie.InvT-loop
 Inv-loop seed published from₀ same₀ i₀ i-end from same i = (i-end ≤ length published) × (i ≤ i-end) × (same ≤ i)

@@ -1,11 +1,8 @@
+-- `random::Random::below` meets its contract. Assumes nothing.
 use Rattle.random.proofs.CallLaws.{callLaws}
 use borrow.Author.Needs.{needs}
 use Rattle.random.proofs.Random.below.Statement.{statement}
 use Rattle.random.proofs.Random.below.Tie as tie
-use Rattle.random.proofs.Random.below.Reads as reads
-use Rattle.random.proofs.Random.below.Lts as lts
-use Rattle.random.proofs.Supply.below.Reads as below-reads
-use Rattle.random.proofs.in_limits.Reads as in-limits-reads
 
 in-limits-requires : tie.Need-in-limits-requires
 in-limits-requires c κs = search (callLaws, needs)

@@ -1,10 +1,8 @@
+-- `random::Random::coin` meets its contract. Assumes nothing.
 use Rattle.random.specs.Generator.{firstSide}
 use borrow.Author.Needs.{needs}
 use Rattle.random.proofs.Random.coin.Statement.{statement}
 use Rattle.random.proofs.Random.coin.Tie as tie
-use Rattle.random.proofs.Random.coin.Reads as reads
-use Rattle.random.proofs.Random.coin.Lts as lts
-use Rattle.random.proofs.Random.next_u64.Reads as next-u64-reads
 
 next-u64-requires : tie.Need-next-u64-requires
 next-u64-requires c κs = search needs

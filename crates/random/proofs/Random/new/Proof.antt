@@ -1,12 +1,9 @@
+-- `random::Random::new` meets its contract. Assumes nothing.
 use Rattle.random.specs.SplitMix.{outputs}
 use Rattle.random.specs.Generator.{seeded}
 use borrow.Author.Needs.{needs}
 use Rattle.random.proofs.Random.new.Statement.{statement}
 use Rattle.random.proofs.Random.new.Tie as tie
-use Rattle.random.proofs.Random.new.Reads as reads
-use Rattle.random.proofs.Random.new.Lts as lts
-use Rattle.random.proofs.advanced.Reads as advanced-reads
-use Rattle.random.proofs.mixed.Reads as mixed-reads
 
 advanced-requires : tie.Need-advanced-requires
 advanced-requires c κs = search needs

@@ -1,12 +1,9 @@
+-- `random::Random::next_u64` meets its contract. Assumes nothing.
 use Rattle.random.specs.Xoshiro.{output, step, stepped}
 use Rattle.random.specs.Generator.{wordOf, next}
 use borrow.Author.Needs.{needs}
 use Rattle.random.proofs.Random.next_u64.Statement.{statement}
 use Rattle.random.proofs.Random.next_u64.Tie as tie
-use Rattle.random.proofs.Random.next_u64.Reads as reads
-use Rattle.random.proofs.Random.next_u64.Lts as lts
-use Rattle.std.proofs.num.wrapping_add_u64.Reads as wrapping-add-u64-reads
-use Rattle.words.proofs.rotate_left.Reads as rotate-left-reads
 
 array-read-s0 : tie.Need-array-read-s0
 array-read-s0 c = search needs

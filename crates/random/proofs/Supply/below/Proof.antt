@@ -1,14 +1,10 @@
+-- `random::Supply::below` meets its contract. Assumes nothing.
 use mathlib.Core.Path.{_≡_}
 use Rattle.random.specs.Draw.{below, pick, supplyOf, Countable}
 use Rattle.random.proofs.BelowLaws.{belowLaws}
 use borrow.Author.Needs.{needs}
 use Rattle.random.proofs.Supply.below.Statement.{statement}
 use Rattle.random.proofs.Supply.below.Tie as tie
-use Rattle.random.proofs.Supply.below.Reads as reads
-use Rattle.random.proofs.Supply.below.Lts as lts
-use Rattle.random.proofs.Random.next_u64.Reads as next-u64-reads
-use Rattle.random.proofs.is_fair.Reads as is-fair-reads
-use Rattle.words.proofs.wide_mul.Reads as wide-mul-reads
 
 abbrev Inv-loop : tie.InvT-loop
 Inv-loop self n random₀ left₀ random left = Countable n × (pick (below n) self ≡ pick (below n) (supplyOf random left))

@@ -1,10 +1,8 @@
+-- `random::Supply::coin` meets its contract. Assumes nothing.
 use Rattle.random.proofs.TakenLaws.{takenLaws}
 use borrow.Author.Needs.{needs}
 use Rattle.random.proofs.Supply.coin.Statement.{statement}
 use Rattle.random.proofs.Supply.coin.Tie as tie
-use Rattle.random.proofs.Supply.coin.Reads as reads
-use Rattle.random.proofs.Supply.coin.Lts as lts
-use Rattle.random.proofs.Random.coin.Reads as coin-reads
 
 returns : tie.Need-returns
 returns c = search (takenLaws, needs)

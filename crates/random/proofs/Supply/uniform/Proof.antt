@@ -1,10 +1,8 @@
+-- `random::Supply::uniform` meets its contract. Assumes nothing.
 use Rattle.random.proofs.TakenLaws.{takenLaws}
 use borrow.Author.Needs.{needs}
 use Rattle.random.proofs.Supply.uniform.Statement.{statement}
 use Rattle.random.proofs.Supply.uniform.Tie as tie
-use Rattle.random.proofs.Supply.uniform.Reads as reads
-use Rattle.random.proofs.Supply.uniform.Lts as lts
-use Rattle.random.proofs.Random.uniform.Reads as uniform-reads
 
 returns : tie.Need-returns
 returns c = search (takenLaws, needs)

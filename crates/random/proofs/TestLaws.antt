@@ -20,4 +20,4 @@ module _ (p q a : Bool) (ea : a ≡ p) where
   pub first-fails : a ≡ false → a ≡ p && q
   first-fails f = rw (← ea, f)
 
-pub ruleset limitLaws = (not-under, under, first-holds, first-fails)
+pub ruleset testLaws = (not-under, under, first-holds, first-fails)
