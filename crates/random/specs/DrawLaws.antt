@@ -5,12 +5,11 @@
 use mathlib.Core.Path.{_≡_, refl, sym, ap, _∙_, subst}
 use mathlib.Core.Bool.{Bool, true, false, cond}
 use Prim.Native.Nat.{ℕ, zero, suc, _+_, _-_, _*_, _/_, _^_, _≤_, _<_}
-use native.Mathlib.Nat.{div-lt-iff-lt-mul, mul-lt-mul-of-pos-right, mul-comm, mod-lt}
+use native.Mathlib.Nat.{div-lt-iff-lt-mul, mul-lt-mul-of-pos-right, mul-comm}
 use native.Mathlib.Omega.{arith}
 use lib.Dec.{lit<}
-use Rattle.random.specs.Xoshiro.{output}
 use Rattle.random.specs.Generator.{wordOf, next, after, uniformOf}
-use Rattle.random.specs.UniformLaws.{UnitFraction, uniform-unit}
+use Rattle.random.specs.UniformLaws.{word-lt, UnitFraction, uniform-unit}
 use Rattle.random.specs.Draw.{Number, word, until, map, Draw, return, draws, draw, _>>=_, uniform, fair, below, Drawn, spent, got, onward, wordFrom, untilFrom, pick, run}
 use Rattle.random.specs.Lawful.{more, Stepped, Lawful, Taking, Yields}
 use Rattle.random.specs.declared.Random.{Random}
@@ -281,8 +280,8 @@ module _ (test : ℕ → Bool) (d : Number) where
 -- ---- what is drawn is in range
 
 pub word-yields : Yields (λ w. w < 2 ^ 64) (pick word)
-unfolding pick wordOf output
-word-yields s w u e = let p = one-word (s .left) (s .random) w u e .2 in rw p (mod-lt _ (lit< tt))
+unfolding pick
+word-yields s w u e = let p = one-word (s .left) (s .random) w u e .2 in rw p (word-lt (s .random))
 
 pub until-yields : (P : ℕ → Type 0) (test : ℕ → Bool) (d : Number) → Yields P (pick d) → Yields (λ k. (test k ≡ true) × P k) (pick (until test d))
 unfolding pick

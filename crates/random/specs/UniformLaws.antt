@@ -4,7 +4,7 @@
 use mathlib.Core.Path.{_≡_, sym, ap, _∙_}
 use mathlib.Core.Bool.{Bool, true, false, true≢false}
 use Prim.Native.Nat.{ℕ, _*_, _/_, _^_, _<_}
-use native.Mathlib.Nat.{mul-assoc, mul-comm, mul-one, mul-pos, lt-of-lt-of-le, mul-lt-mul-of-pos-right}
+use native.Mathlib.Nat.{mod-lt, mul-assoc, mul-comm, mul-one, mul-pos, lt-of-lt-of-le, mul-lt-mul-of-pos-right}
 use native.Mathlib.Omega.{arith}
 use lib.Dec.{lit<, lit≤}
 use borrow.Author.Tests.{lt-ltb}
@@ -14,10 +14,17 @@ use lib.Ieee.{Float, nan, inf, fin, binary64, up, down, unlike, div, ofInt, roun
 use lib.Ieee.Exact.{HasValue, round-exact}
 use lib.Ieee.Fits.{down-pos}
 use lib.Ieee.Scale.{round-same}
-use Rattle.random.specs.Generator.{uniformOf}
+use Rattle.random.specs.Xoshiro.{output}
+use Rattle.random.specs.Generator.{wordOf, uniformOf}
+use Rattle.random.specs.declared.Random.{Random}
 
--- the top 53 bits of a draw
-top-lt : (w : ℕ) → w < 2 ^ 64 → w / 2 ^ 11 < 2 ^ 53
+-- a draw is a 64-bit word
+pub word-lt : (g : Random) → wordOf g < 2 ^ 64
+unfolding wordOf output
+word-lt g = mod-lt _ (lit< tt)
+
+-- its top 53 bits
+pub top-lt : (w : ℕ) → w < 2 ^ 64 → w / 2 ^ 11 < 2 ^ 53
 top-lt w h = shr-lt 53 11 h
 
 -- x is exactly a numerator below 2 ^ 53 over 2 ^ 53

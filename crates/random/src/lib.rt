@@ -165,10 +165,10 @@ impl Random {
     pub fn coin(self) -> DrawnCoin
         ensures { λ r. ⌜ r ≡ drawnCoin self ⌝ }
     {
-        let w = self.next_u64();
-        let random = w.random;
+        let d = self.next_u64();
+        let random = d.random;
         DrawnCoin {
-            value: w.value >> 63 == 1,
+            value: d.value >> 63 == 1,
             random,
         }
     }

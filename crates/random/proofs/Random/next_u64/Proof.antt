@@ -1,6 +1,5 @@
 -- `random::Random::next_u64` meets its contract. Assumes nothing.
-use Rattle.random.specs.Xoshiro.{output, step, stepped}
-use Rattle.random.specs.Generator.{wordOf, next}
+use Rattle.random.proofs.StepLaws.{stepLaws}
 use borrow.Author.Needs.{needs}
 use Rattle.random.proofs.Random.next_u64.Statement.{statement}
 use Rattle.random.proofs.Random.next_u64.Tie as tie
@@ -30,14 +29,7 @@ rotate-left-requires-2 : tie.Need-rotate-left-requires-2
 rotate-left-requires-2 c κs = search needs
 
 returns : tie.Need-returns
-unfolding wordOf next output step stepped
-returns c =
-    rw (
-      c .before .wrapping-add-u642 .ensures,
-      c .before .before .rotate-left .ensures,
-      c .before .before .before .wrapping-add-u64 .ensures,
-      c .rotate-left2 .ensures,
-    )
+returns c = search (stepLaws, needs)
 
 pub next-u64-spec : {M : Type 1} → statement M
 next-u64-spec =
