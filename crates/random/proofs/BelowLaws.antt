@@ -1,17 +1,37 @@
--- The ways through the code that draws below n: no draw is left, a draw is taken, a draw is passed over. Assumes nothing.
+-- The ways through the code that draws below n. A low word is fair: not for an n of 0, always from n on, else by the remainder. The loop: no
+-- draw is left, a draw is taken, a draw is passed over. Assumes nothing.
 use mathlib.Core.Path.{_≡_, sym, ap, _∙_}
 use mathlib.Core.Bool.{Bool, true, false}
 use Prim.Native.Nat.{ℕ, _-_, _*_, _/_, _%_, _^_, _≤_, _<_}
+use native.Mathlib.Nat.{mod-lt, le-of-lt, le-trans}
+use native.Mathlib.Omega.{arith}
 use lib.Dec.{leb}
+use borrow.Author.Tests.{lt-ltb, le-ltb, le-leb}
 use Rattle.words.specs.declared.Wide.{Wide}
 use Rattle.words.specs.Words.{twoWords}
 use Rattle.random.specs.Generator.{drawnWord}
-use Rattle.random.specs.Draw.{word, fair, below, Drawn, got, onward, pick, supplyOf, drawnNumber}
+use Rattle.random.specs.Draw.{word, fairLow, fair, below, Drawn, got, onward, pick, supplyOf, drawnNumber}
 use Rattle.random.specs.DrawLaws.{until-spent, until-found, until-again}
 use Rattle.random.specs.SupplyLaws.{word-none, word-one}
 use Rattle.random.specs.declared.Random.{Random}
 use Rattle.random.specs.declared.Supply.{Supply}
 use Rattle.random.specs.declared.DrawnWord.{DrawnWord}
+
+-- ---- the low word
+
+module _ (n low : ℕ) where
+  pub fair-zero : n < 1 → false ≡ fairLow n low
+  fair-zero h = rw (le-ltb 0 n (omega arith))
+
+  pub fair-large : 1 ≤ n → n ≤ low → true ≡ fairLow n low
+  fair-large h k = rw (lt-ltb 0 n (omega arith), le-leb (2 ^ 64 % n) low (le-trans (le-of-lt (mod-lt (2 ^ 64) h)) k))
+
+  pub fair-tested : 1 ≤ n → (threshold : ℕ) → threshold ≡ 2 ^ 64 % n → leb threshold low ≡ fairLow n low
+  fair-tested h threshold e = rw (lt-ltb 0 n (omega arith), e)
+
+pub ruleset fairLaws = (fair-zero, fair-large, fair-tested)
+
+-- ---- the loop
 
 -- s₀ is the supply at first; g and left are the generator and the draws left at this turn
 module _ (n : ℕ) (s₀ : Supply) (g : Random) (left : ℕ) (inv : pick (below n) s₀ ≡ pick (below n) (supplyOf g left)) where
@@ -20,13 +40,13 @@ module _ (n : ℕ) (s₀ : Supply) (g : Random) (left : ℕ) (inv : pick (below 
   below-none h = rw (inv, until-spent (fair n) word (supplyOf g left) (word-none g left h))
 
   -- the turn's draw, its product with n and whether the low word is fair
-  module _ (w : DrawnWord) (ew : w ≡ drawnWord g) (p : Wide) (ep : p ≡ twoWords (w .value * n)) (b : Bool) (eb : b ≡ leb (2 ^ 64 % n) (p .low)) (h : 0 < left) where
+  module _ (w : DrawnWord) (ew : w ≡ drawnWord g) (p : Wide) (ep : p ≡ twoWords (w .value * n)) (b : Bool) (eb : b ≡ fairLow n (p .low)) (h : 0 < left) where
     drawn : pick word (supplyOf g left) ≡ got (w .value) (supplyOf (w .random) (left - 1))
     drawn = word-one g left h ∙ sym (λ i. got (ew i .value) (supplyOf (ew i .random) (left - 1)))
 
     tested : fair n (w .value) ≡ b
     unfolding fair
-    tested = sym (eb ∙ ap (λ (x : Wide). leb (2 ^ 64 % n) (x .low)) ep)
+    tested = sym (eb ∙ ap (λ (x : Wide). fairLow n (x .low)) ep)
 
     pub below-found : b ≡ true → record { ok = true; value = p .high; supply = supplyOf (w .random) (left - 1) } ≡ drawnNumber s₀ (pick (below n) s₀)
     unfolding below pick onward

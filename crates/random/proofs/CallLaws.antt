@@ -1,12 +1,11 @@
 -- The ways through the code of `Random::below`: a parameter is outside its limits, the draws are spent, a number is drawn. Assumes nothing.
-use mathlib.Core.Path.{_≡_, sym, _∙_}
+use mathlib.Core.Path.{_≡_}
 use mathlib.Core.Bool.{Bool, true, false, _&&_}
 use Prim.Native.Nat.{ℕ, _-_, _≤_}
 use Rattle.answer.specs.declared.Refusal.the-variants.{Parameter, Allowance}
-use Rattle.random.specs.Draw.{below, pick, countable, Countable, allowed, supplyOf, drawnNumber}
+use Rattle.random.specs.Draw.{below, pick, countable, allowed, supplyOf, drawnNumber}
 use Rattle.random.specs.BelowCall.{turnedBack, belowCall}
 use Rattle.random.specs.DrawLaws.{pick-lawful}
-use Rattle.random.specs.LimitLaws.{both-true, countable-true}
 use Rattle.random.specs.SupplyLaws.{number-got, number-spent}
 use Rattle.random.specs.declared.Random.{Random}
 use Rattle.random.specs.declared.Below.the-variants as Answers
@@ -28,11 +27,8 @@ module _ (g : Random) (n allowance : ℕ) (b : Bool) (eb : b ≡ countable n && 
     unfolding belowCall
     call-drawn k = rw (← eb, t, number-got (supplyOf g allowance) d (pick (below n) (supplyOf g allowance)) ed k)
 
--- what the call and the difference in it ask
-pub call-countable : (n allowance : ℕ) (b : Bool) → b ≡ countable n && allowed allowance → b ≡ true → Countable n
-call-countable n allowance b e t = countable-true n (both-true (countable n) (allowed allowance) (sym e ∙ t) .0)
-
+-- what the difference in it asks
 pub call-left : (g : Random) (n allowance : ℕ) (d : DrawnNumber) → d ≡ drawnNumber (supplyOf g allowance) (pick (below n) (supplyOf g allowance)) → d .ok ≡ true → d .supply .left ≤ allowance
 call-left g n allowance d e t = pick-lawful (below n) .steps (supplyOf g allowance) (d .value) (d .supply) (number-got (supplyOf g allowance) d (pick (below n) (supplyOf g allowance)) e t) .fewer
 
-pub ruleset callLaws = (call-limits, call-spent, call-drawn, call-countable, call-left)
+pub ruleset callLaws = (call-limits, call-spent, call-drawn, call-left)

@@ -8,7 +8,6 @@ use Rattle.random.specs.Generator.{after}
 use Rattle.random.specs.Draw.{Drawn, spent, got, below, pick, countable, allowed, supplyOf}
 use Rattle.random.specs.BelowCall.{turnedBack, ended, belowCall}
 use Rattle.random.specs.DrawLaws.{pick-lawful, pick-taking, below-yields}
-use Rattle.random.specs.LimitLaws.{both-true, countable-true}
 use Rattle.random.specs.declared.Random.{Random}
 use Rattle.random.specs.declared.DrawnBelow.{DrawnBelow}
 use Rattle.random.specs.declared.Below.the-variants as Answers
@@ -32,11 +31,10 @@ below-drawn g n allowance k draws h = go (countable n && allowed allowance) refl
         let ek : v ≡ k = cc in
         let ed : allowance - s .left ≡ draws = cc in
         let eh : s .random ≡ h = ap (λ (r : DrawnBelow). r .random) e in
-        let limits = countable-true n (both-true (countable n) (allowed allowance) t .0) in
         let stepped = pick-lawful (below n) .steps (supplyOf g allowance) v s p in
         let taken = pick-taking (below n) (supplyOf g allowance) v s p in
         record {
-          small = rw (← ek) (below-yields n (limits .some) (supplyOf g allowance) v s p);
+          small = rw (← ek) (below-yields n (supplyOf g allowance) v s p);
           some = omega arith;
           within = omega arith;
           moved = sym eh ∙ stepped .moved ∙ ap (λ (j : ℕ). after j g) ed;

@@ -1,8 +1,8 @@
 -- Programs of draws, and what it is to run one with a limited number of draws. A program is data, so a law shown by induction on programs
 -- holds for every call that is defined by one. Definitions only; the laws are in DrawLaws. Assumes nothing.
 use mathlib.Core.Bool.{Bool, true, false, cond, _&&_}
-use Prim.Native.Nat.{ℕ, zero, suc, _*_, _/_, _%_, _^_, _≤_}
-use lib.Dec.{leb}
+use Prim.Native.Nat.{ℕ, zero, suc, _*_, _/_, _%_, _^_}
+use lib.Dec.{leb, ltb}
 use lib.Ieee.{Float, binary64, ofBits}
 use Rattle.random.specs.Generator.{wordOf, next, uniformOf, firstSide}
 use Rattle.random.specs.declared.Random.{Random}
@@ -41,9 +41,12 @@ uniform = draws word (λ w. return (uniformOf w))
 unfoldable pub coin : Draw Bool
 coin = draws word (λ w. return (firstSide w))
 
--- "when the low word is under 2^64 mod n it draws again"
+-- "when the low word is under 2^64 mod n it draws again"; for an n of 0 there is no number to take
+abbrev pub fairLow : ℕ → ℕ → Bool
+fairLow n low = ltb 0 n && leb (2 ^ 64 % n) low
+
 unfoldable pub fair : ℕ → ℕ → Bool
-fair n w = leb (2 ^ 64 % n) (w * n % 2 ^ 64)
+fair n w = fairLow n (w * n % 2 ^ 64)
 
 -- "the high word of draw times n"
 unfoldable pub below : ℕ → Number
@@ -86,11 +89,6 @@ run (draws d f) s = onward (pick d s) (λ k u. run (f k) u)
 -- "n of `below` 1 to 2^32"
 abbrev pub countable : ℕ → Bool
 countable n = leb 1 n && leb n (2 ^ 32)
-
--- the same as facts, for callers that have tested it
-pub record Countable (n : ℕ) : Type 0 where
-  pub some : 1 ≤ n
-  pub few : n ≤ 2 ^ 32
 
 -- "allowance 1 to 65,535"
 abbrev pub allowed : ℕ → Bool

@@ -4,13 +4,15 @@
 -- Lawful, and the laws on the code's own structs are in SupplyLaws. Assumes nothing.
 use mathlib.Core.Path.{_≡_, refl, sym, ap, _∙_, subst}
 use mathlib.Core.Bool.{Bool, true, false, cond}
-use Prim.Native.Nat.{ℕ, zero, suc, _+_, _-_, _*_, _/_, _^_, _≤_, _<_}
+use Prim.Native.Nat.{ℕ, zero, suc, _+_, _-_, _*_, _/_, _%_, _^_, _≤_, _<_}
 use native.Mathlib.Nat.{div-lt-iff-lt-mul, mul-lt-mul-of-pos-right, mul-comm}
 use native.Mathlib.Omega.{arith}
-use lib.Dec.{lit<}
+use lib.Dec.{lit<, ltb, leb}
+use borrow.Author.Tests.{ltb-true}
 use Rattle.random.specs.Generator.{wordOf, next, after, uniformOf}
 use Rattle.random.specs.UniformLaws.{word-lt, UnitFraction, uniform-unit}
 use Rattle.random.specs.Draw.{Number, word, until, map, Draw, return, draws, draw, _>>=_, uniform, fair, below, Drawn, spent, got, onward, wordFrom, untilFrom, pick, run}
+use Rattle.random.specs.LimitLaws.{both-true}
 use Rattle.random.specs.Lawful.{more, Stepped, Lawful, Taking, Yields}
 use Rattle.random.specs.declared.Random.{Random}
 use Rattle.random.specs.declared.Supply.{Supply}
@@ -306,9 +308,14 @@ bind-yields P Q d f y h s b u e = onward-yields P Q (run d) (λ a v. run (f a) v
 high-lt : (n w : ℕ) → 0 < n → w < 2 ^ 64 → w * n / 2 ^ 64 < n
 high-lt n w hn hw = div-lt-iff-lt-mul (lit< tt) .1 (subst (λ (x : ℕ). w * n < x) (mul-comm (2 ^ 64) n) (mul-lt-mul-of-pos-right hw hn))
 
-pub below-yields : (n : ℕ) → 0 < n → Yields (λ k. k < n) (pick (below n))
+fair-pos : (n w : ℕ) → fair n w ≡ true → 0 < n
+unfolding fair
+fair-pos n w e = ltb-true 0 n (both-true (ltb 0 n) (leb (2 ^ 64 % n) (w * n % 2 ^ 64)) e .0)
+
+pub below-yields : (n : ℕ) → Yields (λ k. k < n) (pick (below n))
 unfolding below
-below-yields n h = map-yields _ (λ k. k < n) (λ w. w * n / 2 ^ 64) (until (fair n) word) (until-yields _ (fair n) word word-yields) (λ w p. high-lt n w h (p .1))
+below-yields n =
+    map-yields _ (λ k. k < n) (λ w. w * n / 2 ^ 64) (until (fair n) word) (until-yields _ (fair n) word word-yields) (λ w p. high-lt n w (fair-pos n w (p .0)) (p .1))
 
 pub uniform-yields : Yields UnitFraction (run uniform)
 unfolding uniform

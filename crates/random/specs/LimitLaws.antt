@@ -1,10 +1,9 @@
 -- Tests of limits and what they say of the numbers tested. Assumes nothing.
 use mathlib.Core.Path.{_≡_, refl, sym}
 use mathlib.Core.Bool.{Bool, true, false, _&&_, true≢false}
-use Prim.Native.Nat.{ℕ, _^_, _≤_}
+use Prim.Native.Nat.{ℕ, _≤_}
 use lib.Dec.{leb}
 use borrow.Author.Tests.{leb-true, le-leb}
-use Rattle.random.specs.Draw.{countable, Countable}
 
 pub both-true : (a b : Bool) → a && b ≡ true → (a ≡ true) × (b ≡ true)
 both-true true b e = (refl, e)
@@ -17,6 +16,3 @@ module _ (lowest highest k : ℕ) where
 
   pub true-between : leb lowest k && leb k highest ≡ true → (lowest ≤ k) × (k ≤ highest)
   true-between e = let t = both-true (leb lowest k) (leb k highest) e in (leb-true lowest k (t .0), leb-true k highest (t .1))
-
-pub countable-true : (n : ℕ) → countable n ≡ true → Countable n
-countable-true n e = let t = true-between 1 (2 ^ 32) n e in record { some = t .0; few = t .1 }

@@ -4,10 +4,9 @@
 ghost use mathlib.Core.Bool.{_&&_};
 ghost use mathlib.Core.Path.{_≡_};
 ghost use Prim.Native.Nat.{_%_, _^_, _<_};
-ghost use lib.Dec.{leb};
 ghost use Rattle.random.specs.SplitMix.{advance, mix};
 ghost use Rattle.random.specs.Generator.{stateOf, fromState, seeded, drawnWord, drawnUniform, drawnCoin};
-ghost use Rattle.random.specs.Draw.{below, uniform, coin, pick, run, countable, Countable, allowed, drawnNumber, drawnReal, drawnSide};
+ghost use Rattle.random.specs.Draw.{below, uniform, coin, fairLow, pick, run, countable, allowed, drawnNumber, drawnReal, drawnSide};
 ghost use Rattle.random.specs.BelowCall.{belowCall};
 use answer::Refusal;
 use std::num::wrapping_add_u64;
@@ -201,12 +200,17 @@ fn threshold(n: u64) -> u64
     (u64::MAX - n + 1) % n
 }
 
-// Whether a number may be taken that has this low word. The remainder, which is below n, is worked out only where it can matter.
+// Whether a number below n may be taken that has this low word. The remainder, which is below n, is worked out only where it can matter.
 fn is_fair(low: u64, n: u64) -> bool
-    requires { ⌜ 0 < n ⌝ }
-    ensures { λ r. ⌜ r ≡ leb (2 ^ 64 % n) low ⌝ }
+    ensures { λ r. ⌜ r ≡ fairLow n low ⌝ }
 {
-    n <= low || threshold(n) <= low
+    if n < 1 {
+        return false;
+    }
+    if n <= low {
+        return true;
+    }
+    threshold(n) <= low
 }
 
 // A generator with the draws that are left to it, handed from draw to draw within a call. The draws made are those allowed less those left.
@@ -237,9 +241,8 @@ pub struct DrawnSide {
 }
 
 impl Supply {
-    // For an n within its limits, which the callers within a call have tested.
+    // Below 0 there is no number, so that the draws are spent.
     pub fn below(self, n: usize) -> DrawnNumber
-        requires { ⌜ Countable n ⌝ }
         ensures { λ r. ⌜ r ≡ drawnNumber self (pick (below n) self) ⌝ }
     {
         let mut random = self.random;

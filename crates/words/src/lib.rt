@@ -1,7 +1,8 @@
-// Operations on 64-bit words that the language lacks: the low word of a product, a product in two words, rotation.
-// Each contract is exact. Assumes nothing.
+// Operations on 64-bit words that the language lacks: the low and the high word of a product, and rotation.
+// Each contract is exact and holds for all words. The products are cut into halves of 32 bits, in the forms that the compiler turns into one
+// machine product each. Assumes nothing.
 ghost use mathlib.Core.Path.{_≡_};
-ghost use Prim.Native.Nat.{_*_, _%_, _^_, _≤_};
+ghost use Prim.Native.Nat.{_*_, _/_, _%_, _^_};
 ghost use Rattle.words.specs.Words.{rotl, twoWords};
 
 // A number of two words.
@@ -10,7 +11,7 @@ pub struct Wide {
     pub low: u64,
 }
 
-// The low word of a * b. Each number is cut into halves of 32 bits; the product of the high halves is a multiple of 2^64.
+// The low word of a * b. The product of the high halves is a multiple of 2^64 and does not count.
 pub fn wrapping_mul(a: u64, b: u64) -> u64
     ensures { λ r. ⌜ r ≡ a * b % 2 ^ 64 ⌝ }
 {
@@ -25,16 +26,27 @@ pub fn wrapping_mul(a: u64, b: u64) -> u64
     (high % 0x1_0000_0000) * 0x1_0000_0000 + low % 0x1_0000_0000
 }
 
-// The whole of a * n, for an n of at most 2^32: two products of a half of a, where a general n takes four.
-pub fn wide_mul(a: u64, n: u64) -> Wide
-    requires { ⌜ n ≤ 2 ^ 32 ⌝ }
-    ensures { λ r. ⌜ r ≡ twoWords (a * n) ⌝ }
+// The high word of a * b. Each sum takes the carry of the one before.
+pub fn high_mul(a: u64, b: u64) -> u64
+    ensures { λ r. ⌜ r ≡ a * b / 2 ^ 64 ⌝ }
 {
-    let low = (a % 0x1_0000_0000) * n;
-    let high = (a / 0x1_0000_0000) * n + low / 0x1_0000_0000;
+    let a0 = a % 0x1_0000_0000;
+    let a1 = a / 0x1_0000_0000;
+    let b0 = b % 0x1_0000_0000;
+    let b1 = b / 0x1_0000_0000;
+    let low = a0 * b0;
+    let cross = a1 * b0 + low / 0x1_0000_0000;
+    let other = a0 * b1 + cross % 0x1_0000_0000;
+    a1 * b1 + cross / 0x1_0000_0000 + other / 0x1_0000_0000
+}
+
+// The whole of a * b.
+pub fn wide_mul(a: u64, b: u64) -> Wide
+    ensures { λ r. ⌜ r ≡ twoWords (a * b) ⌝ }
+{
     Wide {
-        high: high / 0x1_0000_0000,
-        low: (high % 0x1_0000_0000) * 0x1_0000_0000 + low % 0x1_0000_0000,
+        high: high_mul(a, b),
+        low: wrapping_mul(a, b),
     }
 }
 

@@ -1,13 +1,13 @@
 -- `random::Supply::below` meets its contract. Assumes nothing.
 use mathlib.Core.Path.{_≡_}
-use Rattle.random.specs.Draw.{below, pick, supplyOf, Countable}
+use Rattle.random.specs.Draw.{below, pick, supplyOf}
 use Rattle.random.proofs.BelowLaws.{belowLaws}
 use borrow.Author.Needs.{needs}
 use Rattle.random.proofs.Supply.below.Statement.{statement}
 use Rattle.random.proofs.Supply.below.Tie as tie
 
 abbrev Inv-loop : tie.InvT-loop
-Inv-loop self n random₀ left₀ random left = Countable n × (pick (below n) self ≡ pick (below n) (supplyOf random left))
+Inv-loop self n random₀ left₀ random left = pick (below n) self ≡ pick (below n) (supplyOf random left)
 
 abbrev μ-loop : tie.MeasureT-loop
 μ-loop self n random₀ left₀ random left = left
