@@ -54,6 +54,9 @@ below n = map (λ w. w * n / 2 ^ 64) (until (fair n) word)
 
 -- ---- running a program from a supply: a generator with the draws that are left to it
 
+abbrev pub supplyOf : Random → ℕ → Supply
+supplyOf g left = record { random = g; left = left }
+
 -- more draws are needed than are left; or a value, and the supply after it
 pub data Drawn (A : Type 0) : Type 0 where
   spent : Drawn A
@@ -67,7 +70,7 @@ onward (got a s) f = f a s
 -- one draw, from a generator with so many left
 unfoldable pub wordFrom : ℕ → Random → Drawn ℕ
 wordFrom zero g = spent
-wordFrom (suc left) g = got (wordOf g) (record { random = next g; left = left })
+wordFrom (suc left) g = got (wordOf g) (supplyOf (next g) left)
 
 -- the first number that passes, among at most so many
 unfoldable pub untilFrom : ℕ → (ℕ → Bool) → (Supply → Drawn ℕ) → Supply → Drawn ℕ
@@ -93,9 +96,6 @@ countable n = leb 1 n && leb n (2 ^ 32)
 -- "allowance 1 to 65,535"
 abbrev pub allowed : ℕ → Bool
 allowed allowance = leb 1 allowance && leb allowance 65535
-
-abbrev pub supplyOf : Random → ℕ → Supply
-supplyOf g allowance = record { random = g; left = allowance }
 
 -- ---- what the code hands back for a drawn value; where the draws are spent, the supply as it came
 
