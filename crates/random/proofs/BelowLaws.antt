@@ -39,10 +39,10 @@ module _ (n : ℕ) (s₀ : Supply) (g : Random) (left : ℕ) (inv : pick (below 
   unfolding below pick onward
   below-none h = rw (inv, until-spent (fair n) word (supplyOf g left) (word-none g left h))
 
-  -- the turn's draw, its product with n and whether the low word is fair
-  module _ (w : DrawnWord) (ew : w ≡ drawnWord g) (p : Wide) (ep : p ≡ twoWords (w .value * n)) (b : Bool) (eb : b ≡ fairLow n (p .low)) (h : 0 < left) where
+  -- the turn's draw, its product with n, whether the low word is fair, and that some number is below the draws left
+  module _ (w : DrawnWord) (ew : w ≡ drawnWord g) (p : Wide) (ep : p ≡ twoWords (w .value * n)) (b : Bool) (eb : b ≡ fairLow n (p .low)) (least : ℕ) (h : least < left) where
     drawn : pick word (supplyOf g left) ≡ got (w .value) (supplyOf (w .random) (left - 1))
-    drawn = word-one g left h ∙ sym (λ i. got (ew i .value) (supplyOf (ew i .random) (left - 1)))
+    drawn = word-one g left (omega arith) ∙ sym (λ i. got (ew i .value) (supplyOf (ew i .random) (left - 1)))
 
     tested : fair n (w .value) ≡ b
     unfolding fair
