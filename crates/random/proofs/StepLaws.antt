@@ -15,19 +15,17 @@ use Rattle.random.specs.UniformLaws.{word-lt, top-lt, uniform-quotient}
 use Rattle.random.specs.declared.Random.{Random}
 use Rattle.random.specs.declared.DrawnWord.{DrawnWord}
 
--- sum, turned and value are the three sums of the output; last is the last word of the next state
+abbrev at : Random → ℕ → ℕ
+at g i = getD (g .state) i 0
+
+-- sum, turned and value lead to the output; last is the last word of the next state
 pub drawn-word : (g : Random) (sum turned value last : ℕ)
-    → sum ≡ (getD (g .state) 0 0 + getD (g .state) 3 0) % 2 ^ 64 → turned ≡ rotl sum 23 → value ≡ (turned + getD (g .state) 0 0) % 2 ^ 64
-    → last ≡ rotl (bitXor (getD (g .state) 3 0) (getD (g .state) 1 0)) 45
+    → sum ≡ (at g 0 + at g 3) % 2 ^ 64 → turned ≡ rotl sum 23 → value ≡ (turned + at g 0) % 2 ^ 64 → last ≡ rotl (bitXor (at g 3) (at g 1)) 45
     → record {
       value = value;
       random = fromState (
-          bitXor (getD (g .state) 0 0) (bitXor (getD (g .state) 3 0) (getD (g .state) 1 0))
-          ∷ bitXor (getD (g .state) 1 0) (bitXor (getD (g .state) 2 0) (getD (g .state) 0 0))
-          ∷ bitXor (bitXor (getD (g .state) 2 0) (getD (g .state) 0 0)) (getD (g .state) 1 0 * 2 ^ 17 % 2 ^ 64)
-          ∷ last
-          ∷ []
-          );
+          bitXor (at g 0) (bitXor (at g 3) (at g 1)) ∷ bitXor (at g 1) (bitXor (at g 2) (at g 0))
+          ∷ bitXor (bitXor (at g 2) (at g 0)) (at g 1 * 2 ^ 17 % 2 ^ 64) ∷ last ∷ []);
     } ≡ drawnWord g
 unfolding wordOf next output step stepped
 drawn-word g sum turned value last a b c d = rw (c, b, a, d)

@@ -3,7 +3,7 @@
 -- other; how a number is drawn again, for loops; and what is drawn is in range (`word-yields` and on). What these laws say is defined in
 -- Lawful, and the laws on the code's own structs are in SupplyLaws. Assumes nothing.
 use mathlib.Core.Path.{_≡_, refl, sym, ap, _∙_, subst}
-use mathlib.Core.Bool.{Bool, true, false, cond}
+use mathlib.Core.Bool.{Bool, true, false, cond, and-eq-true-iff}
 use Prim.Native.Nat.{ℕ, zero, suc, _+_, _-_, _*_, _/_, _%_, _^_, _≤_, _<_}
 use native.Mathlib.Nat.{div-lt-iff-lt-mul, mul-lt-mul-of-pos-right, mul-comm}
 use native.Mathlib.Omega.{arith}
@@ -12,7 +12,6 @@ use borrow.Author.Tests.{ltb-true}
 use Rattle.random.specs.Generator.{wordOf, next, after, uniformOf}
 use Rattle.random.specs.UniformLaws.{word-lt, UnitFraction, uniform-unit}
 use Rattle.random.specs.Draw.{Number, word, until, map, Draw, return, draws, draw, _>>=_, uniform, fair, below, Drawn, spent, got, onward, wordFrom, untilFrom, pick, run}
-use Rattle.random.specs.LimitLaws.{both-true}
 use Rattle.random.specs.Lawful.{more, Stepped, Lawful, Taking, Yields}
 use Rattle.random.specs.declared.Random.{Random}
 use Rattle.random.specs.declared.Supply.{Supply}
@@ -310,7 +309,7 @@ high-lt n w hn hw = div-lt-iff-lt-mul (lit< tt) .1 (subst (λ (x : ℕ). w * n <
 
 fair-pos : (n w : ℕ) → fair n w ≡ true → 0 < n
 unfolding fair
-fair-pos n w e = ltb-true 0 n (both-true (ltb 0 n) (leb (2 ^ 64 % n) (w * n % 2 ^ 64)) e .0)
+fair-pos n w e = ltb-true 0 n (and-eq-true-iff (ltb 0 n) (leb (2 ^ 64 % n) (w * n % 2 ^ 64)) .0 e .0)
 
 pub below-yields : (n : ℕ) → Yields (λ k. k < n) (pick (below n))
 unfolding below

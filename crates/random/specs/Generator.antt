@@ -1,5 +1,5 @@
--- The generator: made from a seed or from four words, its draws, and what a draw is taken for. Everything above this file uses the generator
--- through these definitions and never through its words. Definitions only. Assumes nothing.
+-- The generator: made from a seed or from four words, its draws, and what a draw is taken for. Definitions and laws on what is drawn use the
+-- generator through these and not through its words. Definitions only. Assumes nothing.
 use mathlib.Core.Bool.{Bool, false}
 use mathlib.Core.List.{List}
 use Prim.Native.Nat.{ℕ, zero, suc, _/_, _^_}

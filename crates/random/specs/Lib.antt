@@ -5,7 +5,6 @@ pub mod Generator
 pub mod Draw
 pub mod BelowCall
 pub mod Lawful
-pub mod LimitLaws
 pub mod UniformLaws
 pub mod DrawLaws
 pub mod SupplyLaws

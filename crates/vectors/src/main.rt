@@ -184,17 +184,17 @@ fn main() {
     agreed(
         b"xoshiro256++ from 1,2,3,4",
         same_draws(counting, &DRAWS),
-        10,
+        DRAWS.len(),
     );
     agreed(
         b"SplitMix64 from 1477776061723855037",
         same_outputs(1477776061723855037, &OUTPUTS),
-        50,
+        OUTPUTS.len(),
     );
     agreed(
         b"SplitMix64 from 1234567",
         same_outputs(1234567, &FEW_OUTPUTS),
-        5,
+        FEW_OUTPUTS.len(),
     );
     let u = counting.uniform();
     says(
@@ -214,6 +214,7 @@ fn main() {
     let second = Random::from_state([0, 0x8000_0000_0000_0000, 0, 0]);
     below(b"0,2^63,0,0", second, 3, 1);
     below(b"0,2^63,0,0", second, 3, 2);
+    // As rove's own `below` answers.
     let seeded = Random::new(1234567);
     below(b"seed 1234567", seeded, 4095, 1);
     below(b"seed 1234567", seeded, 4294967296, 65535);
