@@ -141,6 +141,14 @@ fn four_on(seed: u64) -> u64 {
     wrapping_add_u64(seed, wrapping_add_u64(two, two))
 }
 
+fn draws(name: &[u8], start: Random, published: &[u64]) {
+    agreed(name, same_draws(start, published), published.len());
+}
+
+fn outputs(name: &[u8], seed: u64, published: &[u64]) {
+    agreed(name, same_outputs(seed, published), published.len());
+}
+
 // A line on one call of `below`: the number and the draws made, or the refusal's number and detail.
 fn below(name: &[u8], g: Random, n: usize, allowance: u32) {
     text(name);
@@ -179,23 +187,17 @@ fn says(name: &[u8], holds: bool) {
     }
 }
 
-fn main() {
-    let counting = Random::from_state([1, 2, 3, 4]);
-    agreed(
-        b"xoshiro256++ from 1,2,3,4",
-        same_draws(counting, &DRAWS),
-        DRAWS.len(),
-    );
-    agreed(
+fn published(counting: Random) {
+    draws(b"xoshiro256++ from 1,2,3,4", counting, &DRAWS);
+    outputs(
         b"SplitMix64 from 1477776061723855037",
-        same_outputs(1477776061723855037, &OUTPUTS),
-        OUTPUTS.len(),
+        1477776061723855037,
+        &OUTPUTS,
     );
-    agreed(
-        b"SplitMix64 from 1234567",
-        same_outputs(1234567, &FEW_OUTPUTS),
-        FEW_OUTPUTS.len(),
-    );
+    outputs(b"SplitMix64 from 1234567", 1234567, &FEW_OUTPUTS);
+}
+
+fn values(counting: Random) {
     let u = counting.uniform();
     says(
         b"uniform from 1,2,3,4 is 5 * 2^-41",
@@ -206,6 +208,9 @@ fn main() {
     let high = Random::from_state([0x8000_0000_0000_0000, 0, 0, 0]);
     let d = high.coin();
     says(b"coin from 2^63,0,0,0 is the first side", d.value);
+}
+
+fn numbers() {
     let zeros = Random::from_state([0, 0, 0, 0]);
     below(b"0,0,0,0", zeros, 4, 1);
     below(b"0,0,0,0", zeros, 3, 1);
@@ -218,8 +223,19 @@ fn main() {
     let seeded = Random::new(1234567);
     below(b"seed 1234567", seeded, 4095, 1);
     below(b"seed 1234567", seeded, 4294967296, 65535);
+}
+
+fn out_of_limits(counting: Random) {
     below(b"1,2,3,4", counting, 0, 1);
     below(b"1,2,3,4", counting, 4294967297, 1);
     below(b"1,2,3,4", counting, 3, 0);
     below(b"1,2,3,4", counting, 3, 65536);
+}
+
+fn main() {
+    let counting = Random::from_state([1, 2, 3, 4]);
+    published(counting);
+    values(counting);
+    numbers();
+    out_of_limits(counting);
 }
