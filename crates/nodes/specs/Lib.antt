@@ -1,0 +1,2 @@
+-- What the contracts of nodes cite.
+pub mod Nodes

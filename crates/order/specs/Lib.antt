@@ -1,0 +1,3 @@
+-- What the contracts of order cite.
+pub mod Postorder
+pub mod Filling

@@ -1,0 +1,8 @@
+-- The definitions that the contracts of real cite, and the laws of the order of floats and of ages.
+pub mod Real
+pub mod Printed
+pub mod Ages
+pub mod CrossLaws
+pub mod OrderLaws
+pub mod FieldLaws
+pub mod AgeLaws
