@@ -1,7 +1,8 @@
 // Runs published vectors of xoshiro256++ and SplitMix64 and the generator's calls at their limits, and prints what agrees and what is answered.
 // Assumes nothing.
-use answer::Refusal;
-use libc::STDOUT_FILENO;
+use lines::number;
+use lines::refused;
+use lines::text;
 use random::Below;
 use random::Random;
 use std::num::wrapping_add_u64;
@@ -86,14 +87,6 @@ const FEW_OUTPUTS: [u64; 5] = [
 // What SplitMix64's state grows by for each output.
 const GAMMA: u64 = 0x9e37_79b9_7f4a_7c15;
 
-fn text(bytes: &[u8]) {
-    io::write_all(STDOUT_FILENO, bytes);
-}
-
-fn number(n: u64) {
-    io::print_decimal(STDOUT_FILENO, n);
-}
-
 // A line on how many of the published numbers were met.
 fn agreed(name: &[u8], same: usize, of: usize) {
     text(name);
@@ -165,16 +158,12 @@ fn below(name: &[u8], g: Random, n: usize, allowance: u32) {
             text(b", draws ");
             number(draws as u64);
         }
-        Below::Refused(why) => refused(why),
+        Below::Refused(why) => {
+            text(b" is ");
+            refused(why);
+        }
     }
     text(b"\n");
-}
-
-fn refused(why: Refusal) {
-    text(b" is refused,");
-    number(why.number() as u64);
-    text(b",");
-    number(why.detail() as u64);
 }
 
 // A line on whether something holds.

@@ -8,22 +8,22 @@ returns : tie.Need-returns
 returns c = search (adoptLaws, needs)
 
 mul-if3 : tie.Need-mul-if3
-mul-if3 c = search (adoptLaws, needs)
+mul-if3 c = search needs
 
 slice-read-if3 : tie.Need-slice-read-if3
-slice-read-if3 c = search (adoptLaws, needs)
+slice-read-if3 c = search needs
 
 cast-parents : tie.Need-cast-parents
-cast-parents c = search (adoptLaws, needs)
+cast-parents c = search needs
 
 mul-parents : tie.Need-mul-parents
-mul-parents c = search (adoptLaws, needs)
+mul-parents c = search needs
 
 slice-write-parents : tie.Need-slice-write-parents
-slice-write-parents c = search (adoptLaws, needs)
+slice-write-parents c = search needs
 
 same-length : tie.Need-same-length
-same-length c = search (adoptLaws, needs)
+same-length c = search needs
 
 returns-2 : tie.Need-returns-2
 returns-2 c = search (adoptLaws, needs)

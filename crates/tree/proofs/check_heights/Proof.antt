@@ -27,7 +27,7 @@ returns : tie.Need-returns Inv-loop μ-loop
 returns c = search (lowestLaws, needs)
 
 add-node : tie.Need-add-node Inv-loop μ-loop
-add-node c = search (lowestLaws, needs)
+add-node c = search needs
 
 loop-less : tie.Need-loop-less Inv-loop μ-loop
 loop-less c = search (lowestLaws, needs)

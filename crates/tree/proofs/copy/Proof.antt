@@ -18,19 +18,19 @@ loop-holds : tie.Need-loop-holds Inv-loop μ-loop
 loop-holds c = search (copyLaws, needs)
 
 mul-to : tie.Need-mul-to Inv-loop μ-loop
-mul-to c = search (copyLaws, needs)
+mul-to c = search needs
 
 shared-slice-read-to : tie.Need-shared-slice-read-to Inv-loop μ-loop
-shared-slice-read-to c = search (copyLaws, needs)
+shared-slice-read-to c = search needs
 
 mul-to-2 : tie.Need-mul-to-2 Inv-loop μ-loop
-mul-to-2 c = search (copyLaws, needs)
+mul-to-2 c = search needs
 
 slice-write-to : tie.Need-slice-write-to Inv-loop μ-loop
-slice-write-to c = search (copyLaws, needs)
+slice-write-to c = search needs
 
 add-i : tie.Need-add-i Inv-loop μ-loop
-add-i c = search (copyLaws, needs)
+add-i c = search needs
 
 loop-less : tie.Need-loop-less Inv-loop μ-loop
 loop-less c = search (copyLaws, needs)
@@ -39,7 +39,7 @@ loop-again : tie.Need-loop-again Inv-loop μ-loop
 loop-again c = search (copyLaws, needs)
 
 same-length : tie.Need-same-length Inv-loop μ-loop
-same-length c = search (copyLaws, needs)
+same-length c = search needs
 
 returns : tie.Need-returns Inv-loop μ-loop
 returns c = search (copyLaws, needs)

@@ -8,7 +8,7 @@ shape-requires : tie.Need-shape-requires
 shape-requires c κs = search (judgedLaws, needs)
 
 enum-known-top : tie.Need-enum-known-top
-enum-known-top c = search (judgedLaws, needs)
+enum-known-top c = search needs
 
 agree-requires : tie.Need-agree-requires
 agree-requires c κs = search (judgedLaws, needs)
@@ -17,28 +17,28 @@ check-heights-requires : tie.Need-check-heights-requires
 check-heights-requires c κs = search (judgedLaws, needs)
 
 same-length : tie.Need-same-length
-same-length c = search (judgedLaws, needs)
+same-length c = search needs
 
 returns : tie.Need-returns
 returns c = search (judgedLaws, needs)
 
 same-length-2 : tie.Need-same-length-2
-same-length-2 c = search (judgedLaws, needs)
+same-length-2 c = search needs
 
 returns-2 : tie.Need-returns-2
 returns-2 c = search (judgedLaws, needs)
 
 same-length-3 : tie.Need-same-length-3
-same-length-3 c = search (judgedLaws, needs)
+same-length-3 c = search needs
 
 returns-3 : tie.Need-returns-3
 returns-3 c = search (judgedLaws, needs)
 
 enum-known-why : tie.Need-enum-known-why
-enum-known-why c = search (judgedLaws, needs)
+enum-known-why c = search needs
 
 same-length-4 : tie.Need-same-length-4
-same-length-4 c = search (judgedLaws, needs)
+same-length-4 c = search needs
 
 returns-4 : tie.Need-returns-4
 returns-4 c = search (judgedLaws, needs)

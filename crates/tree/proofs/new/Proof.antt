@@ -20,7 +20,7 @@ new-in-requires : tie.Need-new-in-requires
 new-in-requires c κs = search (entryLaws, needs)
 
 same-length : tie.Need-same-length
-same-length c = search (entryLaws, needs)
+same-length c = search needs
 
 returns : tie.Need-returns
 returns c = search (entryLaws, needs)

@@ -8,40 +8,40 @@ shape-requires : tie.Need-shape-requires
 shape-requires c κs = search (madeLaws, needs)
 
 enum-known-top : tie.Need-enum-known-top
-enum-known-top c = search (madeLaws, needs)
+enum-known-top c = search needs
 
 check-heights-requires : tie.Need-check-heights-requires
 check-heights-requires c κs = search (madeLaws, needs)
 
 enum-told : tie.Need-enum-told
-enum-told c = search (madeLaws, needs)
+enum-told c = search needs
 
 copy-requires : tie.Need-copy-requires
 copy-requires c κs = search (madeLaws, needs)
 
 same-length : tie.Need-same-length
-same-length c = search (madeLaws, needs)
+same-length c = search needs
 
 same-length-2 : tie.Need-same-length-2
-same-length-2 c = search (madeLaws, needs)
+same-length-2 c = search needs
 
 returns : tie.Need-returns
 returns c = search (madeLaws, needs)
 
 enum-known-why : tie.Need-enum-known-why
-enum-known-why c = search (madeLaws, needs)
+enum-known-why c = search needs
 
 same-length-3 : tie.Need-same-length-3
-same-length-3 c = search (madeLaws, needs)
+same-length-3 c = search needs
 
 returns-2 : tie.Need-returns-2
 returns-2 c = search (madeLaws, needs)
 
 enum-known-why-2 : tie.Need-enum-known-why-2
-enum-known-why-2 c = search (madeLaws, needs)
+enum-known-why-2 c = search needs
 
 same-length-4 : tie.Need-same-length-4
-same-length-4 c = search (madeLaws, needs)
+same-length-4 c = search needs
 
 returns-3 : tie.Need-returns-3
 returns-3 c = search (madeLaws, needs)

@@ -21,16 +21,16 @@ loop-holds : tie.Need-loop-holds Inv-loop μ-loop
 loop-holds c = search (rootLaws, needs)
 
 mul-if1 : tie.Need-mul-if1 Inv-loop μ-loop
-mul-if1 c = search (rootLaws, needs)
+mul-if1 c = search needs
 
 shared-slice-read-if1 : tie.Need-shared-slice-read-if1 Inv-loop μ-loop
-shared-slice-read-if1 c = search (rootLaws, needs)
+shared-slice-read-if1 c = search needs
 
 returns : tie.Need-returns Inv-loop μ-loop
 returns c = search (rootLaws, needs)
 
 add-node : tie.Need-add-node Inv-loop μ-loop
-add-node c = search (rootLaws, needs)
+add-node c = search needs
 
 loop-less : tie.Need-loop-less Inv-loop μ-loop
 loop-less c = search (rootLaws, needs)

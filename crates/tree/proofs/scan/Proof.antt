@@ -21,10 +21,10 @@ visit-requires : tie.Need-visit-requires Inv-loop μ-loop
 visit-requires c κs = search (scanLaws, needs)
 
 enum-told : tie.Need-enum-told Inv-loop μ-loop
-enum-told c = search (scanLaws, needs)
+enum-told c = search needs
 
 add-node : tie.Need-add-node Inv-loop μ-loop
-add-node c = search (scanLaws, needs)
+add-node c = search needs
 
 loop-less : tie.Need-loop-less Inv-loop μ-loop
 loop-less c = search (scanLaws, needs)
@@ -33,16 +33,16 @@ loop-again : tie.Need-loop-again Inv-loop μ-loop
 loop-again c = search (scanLaws, needs)
 
 enum-known-why : tie.Need-enum-known-why Inv-loop μ-loop
-enum-known-why c = search (scanLaws, needs)
+enum-known-why c = search needs
 
 same-length : tie.Need-same-length Inv-loop μ-loop
-same-length c = search (scanLaws, needs)
+same-length c = search needs
 
 returns : tie.Need-returns Inv-loop μ-loop
 returns c = search (scanLaws, needs)
 
 same-length-2 : tie.Need-same-length-2 Inv-loop μ-loop
-same-length-2 c = search (scanLaws, needs)
+same-length-2 c = search needs
 
 returns-2 : tie.Need-returns-2 Inv-loop μ-loop
 returns-2 c = search (scanLaws, needs)

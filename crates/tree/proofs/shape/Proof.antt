@@ -8,46 +8,46 @@ scan-requires : tie.Need-scan-requires
 scan-requires c κs = search (shapeLaws, needs)
 
 enum-told : tie.Need-enum-told
-enum-told c = search (shapeLaws, needs)
+enum-told c = search needs
 
 root-requires : tie.Need-root-requires
 root-requires c κs = search (shapeLaws, needs)
 
 enum-known-top : tie.Need-enum-known-top
-enum-known-top c = search (shapeLaws, needs)
+enum-known-top c = search needs
 
 add-walk : tie.Need-add-walk
-add-walk c = search (shapeLaws, needs)
+add-walk c = search needs
 
 walk-requires : tie.Need-walk-requires
 walk-requires c κs = search (shapeLaws, needs)
 
 same-length : tie.Need-same-length
-same-length c = search (shapeLaws, needs)
+same-length c = search needs
 
 returns : tie.Need-returns
 returns c = search (shapeLaws, needs)
 
 same-length-2 : tie.Need-same-length-2
-same-length-2 c = search (shapeLaws, needs)
+same-length-2 c = search needs
 
 returns-2 : tie.Need-returns-2
 returns-2 c = search (shapeLaws, needs)
 
 enum-known-why : tie.Need-enum-known-why
-enum-known-why c = search (shapeLaws, needs)
+enum-known-why c = search needs
 
 same-length-3 : tie.Need-same-length-3
-same-length-3 c = search (shapeLaws, needs)
+same-length-3 c = search needs
 
 returns-3 : tie.Need-returns-3
 returns-3 c = search (shapeLaws, needs)
 
 enum-known-why-2 : tie.Need-enum-known-why-2
-enum-known-why-2 c = search (shapeLaws, needs)
+enum-known-why-2 c = search needs
 
 same-length-4 : tie.Need-same-length-4
-same-length-4 c = search (shapeLaws, needs)
+same-length-4 c = search needs
 
 returns-4 : tie.Need-returns-4
 returns-4 c = search (shapeLaws, needs)

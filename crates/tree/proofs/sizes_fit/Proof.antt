@@ -11,7 +11,7 @@ returns-2 : tie.Need-returns-2
 returns-2 c = search (sizeLaws, needs)
 
 add-if4 : tie.Need-add-if4
-add-if4 c = search (sizeLaws, needs)
+add-if4 c = search needs
 
 returns-3 : tie.Need-returns-3
 returns-3 c = search (sizeLaws, needs)

@@ -1,0 +1,193 @@
+-- Numbers in a list, sums, and tests of many numbers. In order: the test whether a number is in a list (`has-true`, `has-false`, `has-in`); sums
+-- over lists and over the first numbers, and that a sum over different numbers is one over all numbers, of those among them
+-- (`total-distinct`); what all or some of the first numbers pass (`every-true`, `every-at`, `some-true`, `some-false`, `some-at`). Assumes
+-- nothing.
+use mathlib.Core.Path.{_≡_, refl, sym, ap, _∙_}
+use mathlib.Core.Logic.{_≢_, _⊎_, inl, inr}
+use mathlib.Core.Bool.{Bool, true, false, _&&_, _||_, cond, true≢false}
+use mathlib.Core.List.{List, [], _∷_, _++_}
+use Prim.Native.Nat.{ℕ, zero, suc, _+_, _*_, _≤_, _<_}
+use native.Mathlib.Omega.{arith}
+use native.Mathlib.Decide.{ℕ-discrete}
+use lib.Dec.{eqb}
+use lib.ListN.{length, getD}
+use borrow.Author.Tests.{eq-eqb, ne-eqb}
+use Rattle.tree.specs.ListLaws.{Has, has-none, has-dec, Distinct}
+use Rattle.clades.specs.Clades.{has, every, some}
+use Rattle.clades.specs.Counting.{total, totalTo}
+
+-- ---- the test whether a number is in a list
+
+-- what is in a list after its first is in the whole
+pub has-later : (x : ℕ) (l : List ℕ) {c : ℕ} → Has l c → Has (x ∷ l) c
+has-later x l h = (suc (h .0), (let b = h .1 in omega arith), h .2)
+
+-- a number in a list is the first or is in the rest
+pub has-split : (x : ℕ) (l : List ℕ) (c : ℕ) → Has (x ∷ l) c → (x ≡ c) ⊎ Has l c
+has-split x l c h = pick (h .0) (h .1) (h .2)
+  where
+    pick : (a : ℕ) → a < suc (length l) → getD (x ∷ l) a 0 ≡ c → (x ≡ c) ⊎ Has l c
+    pick zero b e = inl e
+    pick (suc a) b e = inr (a, omega arith, e)
+
+-- the test passes for what is in the list
+pub has-true : (l : List ℕ) (c : ℕ) → Has l c → has l c ≡ true
+unfolding has
+has-true [] c h = absurd (has-none h)
+has-true (x ∷ l) c h = pick (ℕ-discrete x c) (has-true l c)
+  where
+    pick : Dec (x ≡ c) → (Has l c → has l c ≡ true) → (eqb x c || has l c) ≡ true
+    pick (yes e) rest = rw (eq-eqb x c e)
+    pick (no d) rest = rw (ne-eqb x c d) (rest (other (has-split x l c h)))
+      where
+        other : (x ≡ c) ⊎ Has l c → Has l c
+        other (inl e) = absurd (d e)
+        other (inr q) = q
+
+-- and fails for what is not in it
+pub has-false : (l : List ℕ) (c : ℕ) → (Has l c → ⊥) → has l c ≡ false
+unfolding has
+has-false [] c d = refl
+has-false (x ∷ l) c d =
+    let e : x ≢ c = λ q. d (0, omega arith, q) in
+    rw (ne-eqb x c e) (has-false l c (λ h. d (has-later x l h)))
+
+-- what passes it is in the list
+pub has-in : (l : List ℕ) (c : ℕ) → has l c ≡ true → Has l c
+has-in l c e = elim (has-dec l c) [ yes h ↦ h | no d ↦ absurd (true≢false (sym e ∙ has-false l c d)) ]
+
+-- ---- sums
+
+-- over two lists joined
+pub total-append : (f : ℕ → ℕ) (l m : List ℕ) → total f (l ++ m) ≡ total f l + total f m
+unfolding total
+total-append f [] m = omega arith
+total-append f (x ∷ l) m = let h = total-append f l m in omega arith
+
+-- of numbers none of which is larger than its counterpart
+pub total-le : (f g : ℕ → ℕ) → ((k : ℕ) → f k ≤ g k) → (l : List ℕ) → total f l ≤ total g l
+unfolding total
+total-le f g less [] = omega arith
+total-le f g less (x ∷ l) = let h = total-le f g less l in let s = less x in omega arith
+
+-- of numbers up to w
+pub total-most : (f : ℕ → ℕ) (w : ℕ) → ((k : ℕ) → f k ≤ w) → (l : List ℕ) → total f l ≤ w * length l
+unfolding total
+total-most f w small [] = omega arith
+total-most f w small (x ∷ l) = let h = total-most f w small l in let s = small x in omega arith
+
+pub totalTo-most : (f : ℕ → ℕ) (w : ℕ) → ((k : ℕ) → f k ≤ w) → (m : ℕ) → totalTo f m ≤ w * m
+unfolding totalTo
+totalTo-most f w small zero = omega arith
+totalTo-most f w small (suc m) = let h = totalTo-most f w small m in let s = small m in omega arith
+
+-- of equal numbers
+pub totalTo-same : (f g : ℕ → ℕ) (m : ℕ) → ((i : ℕ) → i < m → f i ≡ g i) → totalTo f m ≡ totalTo g m
+unfolding totalTo
+totalTo-same f g zero same = refl
+totalTo-same f g (suc m) same = let h = totalTo-same f g m (λ i I. same i (omega arith)) in let s = same m (omega arith) in omega arith
+
+-- of numbers each of which is a sum
+pub totalTo-add : (e f g : ℕ → ℕ) (m : ℕ) → ((i : ℕ) → i < m → e i ≡ f i + g i) → totalTo e m ≡ totalTo f m + totalTo g m
+unfolding totalTo
+totalTo-add e f g zero each = refl
+totalTo-add e f g (suc m) each = let h = totalTo-add e f g m (λ i I. each i (omega arith)) in let s = each m (omega arith) in omega arith
+
+-- the number at x alone
+abbrev at : (ℕ → ℕ) → ℕ → ℕ → ℕ
+at f x i = cond (eqb x i) (f i) 0
+
+-- over the numbers before x it is nothing
+totalTo-before : (f : ℕ → ℕ) (x m : ℕ) → m ≤ x → totalTo (at f x) m ≡ 0
+unfolding totalTo
+totalTo-before f x zero h = refl
+totalTo-before f x (suc m) h = rw (ne-eqb x m (λ e. omega arith), totalTo-before f x m (omega arith))
+
+-- over more numbers, or where it is nothing, it is itself
+totalTo-one : (f : ℕ → ℕ) (x m : ℕ) → (m ≤ x → f x ≡ 0) → totalTo (at f x) m ≡ f x
+unfolding totalTo
+totalTo-one f x zero h = sym (h (omega arith))
+totalTo-one f x (suc m) h = pick (ℕ-discrete x m) (totalTo-one f x m)
+  where
+    pick : Dec (x ≡ m) → ((m ≤ x → f x ≡ 0) → totalTo (at f x) m ≡ f x) → totalTo (at f x) m + at f x m ≡ f x
+    pick (yes e) rest = let z = ap f e in rw (eq-eqb x m e, totalTo-before f x m (omega arith)) (omega arith)
+    pick (no d) rest = rw (ne-eqb x m d) (let q = rest (λ l. h (omega arith)) in omega arith)
+
+-- the numbers at the places that are in the list
+abbrev pub within : (ℕ → ℕ) → List ℕ → ℕ → ℕ
+within f l i = cond (has l i) (f i) 0
+
+-- a sum over different numbers is one over all numbers, of those that are among them
+pub total-distinct : (f : ℕ → ℕ) (m : ℕ) (l : List ℕ) → Distinct l → ((c : ℕ) → Has l c → m ≤ c → f c ≡ 0) → total f l ≡ totalTo (within f l) m
+unfolding total totalTo has
+total-distinct f m [] D small = nothing m
+  where
+    nothing : (m : ℕ) → 0 ≡ totalTo (within f []) m
+    nothing zero = refl
+    nothing (suc m) = let h = nothing m in omega arith
+total-distinct f m (x ∷ l) D small =
+    let rest = total-distinct f m l apart (λ c h. small c (has-later x l h)) in
+    let one = totalTo-one f x m (small x (0, omega arith, refl)) in
+    let both = totalTo-add (within f (x ∷ l)) (at f x) (within f l) m (λ i I. pick i (ℕ-discrete x i)) in
+    omega arith
+  where
+    apart : Distinct l
+    apart a b A B e = let z : suc a ≡ suc b = D (suc a) (suc b) (omega arith) (omega arith) e in omega arith
+
+    alone : Has l x → ⊥
+    alone h = let z : 0 ≡ suc (h .0) = D 0 (suc (h .0)) (omega arith) (let b = h .1 in omega arith) (sym (h .2)) in omega arith
+
+    pick : (i : ℕ) → Dec (x ≡ i) → within f (x ∷ l) i ≡ at f x i + within f l i
+    pick i (yes e) = rw (eq-eqb x i e, has-false l i (λ h. alone (rw e h))) (omega arith)
+    pick i (no d) = rw (ne-eqb x i d) (omega arith)
+
+-- ---- the tests of all and of some
+
+-- all pass
+pub every-true : (test : ℕ → Bool) (m : ℕ) → ((i : ℕ) → i < m → test i ≡ true) → every test m ≡ true
+unfolding every
+every-true test zero all = refl
+every-true test (suc m) all = rw (every-true test m (λ i I. all i (omega arith)), all m (omega arith))
+
+-- where all pass, each does
+pub every-at : (test : ℕ → Bool) (m : ℕ) → every test m ≡ true → (i : ℕ) → i < m → test i ≡ true
+unfolding every
+every-at test zero h i I = absurd (omega arith)
+every-at test (suc m) h i I = split (every test m) (test m) refl refl h (every-at test m)
+  where
+    split : (a b : Bool) → every test m ≡ a → test m ≡ b → (a && b) ≡ true → (every test m ≡ true → (i : ℕ) → i < m → test i ≡ true) → test i ≡ true
+    split true true e f h rest = elim (ℕ-discrete i m) [ yes z ↦ rw z f | no z ↦ rest e i (omega arith) ]
+    split true false e f h rest = absurd (true≢false (sym h))
+    split false b e f h rest = absurd (true≢false (sym h))
+
+-- one passes
+pub some-true : (test : ℕ → Bool) (m c : ℕ) → c < m → test c ≡ true → some test m ≡ true
+unfolding some
+some-true test zero c C h = absurd (omega arith)
+some-true test (suc m) c C h = pick (ℕ-discrete c m) (some-true test m c)
+  where
+    pick : Dec (c ≡ m) → (c < m → test c ≡ true → some test m ≡ true) → (some test m || test m) ≡ true
+    pick (yes e) rest = rw (← e, h) (last (some test c))
+      where
+        last : (b : Bool) → (b || true) ≡ true
+        last true = refl
+        last false = refl
+    pick (no d) rest = rw (rest (omega arith) h)
+
+-- none passes
+pub some-false : (test : ℕ → Bool) (m : ℕ) → ((c : ℕ) → c < m → test c ≡ false) → some test m ≡ false
+unfolding some
+some-false test zero none = refl
+some-false test (suc m) none = rw (some-false test m (λ c C. none c (omega arith)), none m (omega arith))
+
+-- where some pass, one does
+pub some-at : (test : ℕ → Bool) (m : ℕ) → some test m ≡ true → (c : ℕ) × (c < m) × (test c ≡ true)
+unfolding some
+some-at test zero h = absurd (true≢false (sym h))
+some-at test (suc m) h = split (some test m) (test m) refl refl h (some-at test m)
+  where
+    split : (a b : Bool) → some test m ≡ a → test m ≡ b → (a || b) ≡ true → (some test m ≡ true → (c : ℕ) × (c < m) × (test c ≡ true))
+        → (c : ℕ) × (c < suc m) × (test c ≡ true)
+    split true b e f h rest = let r = rest e in (r .0, (let q = r .1 in omega arith), r .2)
+    split false true e f h rest = (m, omega arith, f)
+    split false false e f h rest = absurd (true≢false (sym h))

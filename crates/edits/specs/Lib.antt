@@ -1,0 +1,7 @@
+-- The edits of a tree, what their code asks for, and their laws.
+pub mod Slots
+pub mod Needs
+pub mod SlotLaws
+pub mod HeightLaws
+pub mod TurnLaws
+pub mod NeedsLaws
