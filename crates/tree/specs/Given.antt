@@ -62,14 +62,11 @@ pub record Dates (ps : List ℕ) (hs : List Float) (k : ℕ) : Type 0 where
   pub node : k < length ps
   pub height : k < length hs
 
--- a place for the parents, as long as the lent ones and the heights
+-- a place for the parents that the pairs give, as long as the lent ones and the heights
 pub record Makes (pairs : List ℕ) (hs : List Float) (ps place : List ℕ) : Type 0 where
   pub scans : Scans pairs place
   pub parents : length ps ≡ length place
   pub heights : length hs ≡ length place
-
-abbrev pub Judges : List ℕ → List ℕ → List Float → List ℕ → Type 0
-Judges pairs ps hs place = Makes pairs hs ps place
 
 -- 4,095 marks
 pub record Blank (l : List ℕ) : Type 0 where

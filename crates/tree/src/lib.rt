@@ -7,7 +7,7 @@ ghost use Rattle.answer.specs.declared.Refusal.the-variants.{Height};
 ghost use Rattle.tree.specs.declared.Verdict.the-variants.{Fine};
 ghost use Rattle.tree.specs.Tree.{subtree};
 ghost use Rattle.tree.specs.New.{adopt, visit, scan, rootOf, shapeOf, lowest, misdated, agree, judged, validated, newCall, newFrom, newAnswered};
-ghost use Rattle.tree.specs.Given.{scanOf, shapingOf, datesIn, treeOf, newGiven, sizesFit, Visits, Scans, Inside, Dates, Judges, Makes, Blank};
+ghost use Rattle.tree.specs.Given.{scanOf, shapingOf, datesIn, treeOf, newGiven, sizesFit, Visits, Scans, Inside, Dates, Makes, Blank};
 use answer::Refusal;
 
 // In order, or why not.
@@ -289,7 +289,7 @@ pub fn new(pairs: &[u16], heights: &[f64], parents: &mut [u16]) -> Rooted
 
 // `validate` with a place for the parents that the pairs give.
 fn judge(pairs: &[u16], parents: &[u16], heights: &[f64], root: usize, place: &mut [u16]) -> Verdict
-    requires { ⌜ Judges (now pairs) (now parents) (now heights) (now place) ⌝ }
+    requires { ⌜ Makes (now pairs) (now heights) (now parents) (now place) ⌝ }
     ensures { λ r. ⌜ r ≡ judged (treeOf (now (pairs .entry)) (now (parents .entry)) (now (heights .entry)) root) (shapeOf (length (now (place .entry))) (now (pairs .entry))) ⌝ }
 {
     match shape(pairs, place) {

@@ -210,17 +210,15 @@ fn given_twice() {
     validated(b"F with both", &other, &low, 4);
 }
 
-fn small(x: usize) -> u16 {
-    if x < 65535 {
-        return x as u16;
-    }
-    NONE
-}
-
-fn put_pair(pairs: &mut [u16], k: usize, a: u16, b: u16) {
+// The children a and b of node k, where these are nodes.
+fn put_pair(pairs: &mut [u16], k: usize, a: usize, b: usize) {
     if k < pairs.len() / 2 {
-        pairs[k + k] = a;
-        pairs[k + k + 1] = b;
+        if a < 65535 {
+            if b < 65535 {
+                pairs[k + k] = a as u16;
+                pairs[k + k + 1] = b as u16;
+            }
+        }
     }
 }
 
@@ -229,7 +227,7 @@ fn put_comb(pairs: &mut [u16]) {
     let half = pairs.len() / 4;
     let mut below = 0;
     for i in 0..half {
-        put_pair(pairs, half + 1 + i, small(below), small(i + 1));
+        put_pair(pairs, half + 1 + i, below, i + 1);
         below = half + 1 + i;
     }
 }
@@ -238,7 +236,7 @@ fn put_comb(pairs: &mut [u16]) {
 fn put_flat(pairs: &mut [u16]) {
     let half = pairs.len() / 4;
     for i in 0..half {
-        put_pair(pairs, half + 1 + i, small(i + i), small(i + i + 1));
+        put_pair(pairs, half + 1 + i, i + i, i + i + 1);
     }
 }
 

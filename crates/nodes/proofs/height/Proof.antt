@@ -5,10 +5,10 @@ use Rattle.nodes.proofs.height.Statement.{statement}
 use Rattle.nodes.proofs.height.Tie as tie
 
 mul-t5 : tie.Need-mul-t5
-mul-t5 c = search (heightLaws, needs)
+mul-t5 c = search needs
 
 shared-slice-read-t7 : tie.Need-shared-slice-read-t7
-shared-slice-read-t7 c = search (heightLaws, needs)
+shared-slice-read-t7 c = search needs
 
 returns : tie.Need-returns
 returns c = search (heightLaws, needs)

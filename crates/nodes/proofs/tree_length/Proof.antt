@@ -22,10 +22,10 @@ branch-length-requires : tie.Need-branch-length-requires Inv-loop μ-loop
 branch-length-requires c κs = search (lengthLaws, needs)
 
 enum-known-length : tie.Need-enum-known-length Inv-loop μ-loop
-enum-known-length c = search (lengthLaws, needs)
+enum-known-length c = search needs
 
 add-node : tie.Need-add-node Inv-loop μ-loop
-add-node c = search (lengthLaws, needs)
+add-node c = search needs
 
 loop-less : tie.Need-loop-less Inv-loop μ-loop
 loop-less c = search (lengthLaws, needs)
@@ -34,7 +34,7 @@ loop-again : tie.Need-loop-again Inv-loop μ-loop
 loop-again c = search (lengthLaws, needs)
 
 enum-known-why : tie.Need-enum-known-why Inv-loop μ-loop
-enum-known-why c = search (lengthLaws, needs)
+enum-known-why c = search needs
 
 returns : tie.Need-returns Inv-loop μ-loop
 returns c = search (lengthLaws, needs)

@@ -13,7 +13,7 @@ abbrev μ-loop : tie.MeasureT-loop
 μ-loop pairs root order₀ count₀ at₀ order count at = at
 
 cast-order : tie.Need-cast-order Inv-loop μ-loop
-cast-order c = search (fillLaws, needs)
+cast-order c = search needs
 
 slice-write-order : tie.Need-slice-write-order Inv-loop μ-loop
 slice-write-order c = search (fillLaws, needs)
@@ -25,7 +25,7 @@ sub-at : tie.Need-sub-at Inv-loop μ-loop
 sub-at c = search (fillLaws, needs)
 
 sub-visit : tie.Need-sub-visit Inv-loop μ-loop
-sub-visit c = search (fillLaws, needs)
+sub-visit c = search needs
 
 visit-requires : tie.Need-visit-requires Inv-loop μ-loop
 visit-requires c κs = search (fillLaws, needs)
@@ -37,7 +37,7 @@ loop-again : tie.Need-loop-again Inv-loop μ-loop
 loop-again c = search (fillLaws, needs)
 
 same-length : tie.Need-same-length Inv-loop μ-loop
-same-length c = search (fillLaws, needs)
+same-length c = search needs
 
 returns : tie.Need-returns Inv-loop μ-loop
 returns c = search (fillLaws, needs)

@@ -8,19 +8,19 @@ validate-requires : tie.Need-validate-requires
 validate-requires c κs = search (postorderLaws, needs)
 
 enum-told : tie.Need-enum-told
-enum-told c = search (postorderLaws, needs)
+enum-told c = search needs
 
 fill-requires : tie.Need-fill-requires
 fill-requires c κs = search (postorderLaws, needs)
 
 same-length : tie.Need-same-length
-same-length c = search (postorderLaws, needs)
+same-length c = search needs
 
 returns : tie.Need-returns
 returns c = search (postorderLaws, needs)
 
 enum-known-why : tie.Need-enum-known-why
-enum-known-why c = search (postorderLaws, needs)
+enum-known-why c = search needs
 
 returns-2 : tie.Need-returns-2
 returns-2 c = search (postorderLaws, needs)

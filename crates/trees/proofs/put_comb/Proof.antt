@@ -21,14 +21,8 @@ add-put-pair c = search needs
 add-put-pair-2 : tie.Need-add-put-pair-2 Inv-loop μ-loop
 add-put-pair-2 c = search needs
 
-small-requires : tie.Need-small-requires Inv-loop μ-loop
-small-requires c κs = search needs
-
-add-small : tie.Need-add-small Inv-loop μ-loop
-add-small c = search needs
-
-small-requires-2 : tie.Need-small-requires-2 Inv-loop μ-loop
-small-requires-2 c κs = search needs
+add-put-pair-3 : tie.Need-add-put-pair-3 Inv-loop μ-loop
+add-put-pair-3 c = search needs
 
 put-pair-requires : tie.Need-put-pair-requires Inv-loop μ-loop
 put-pair-requires c κs = search needs
@@ -63,9 +57,7 @@ put-comb-spec =
     loop-holds
     add-put-pair
     add-put-pair-2
-    small-requires
-    add-small
-    small-requires-2
+    add-put-pair-3
     put-pair-requires
     add-below
     add-below-2

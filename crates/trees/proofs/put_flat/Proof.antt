@@ -21,20 +21,14 @@ add-put-pair c = search needs
 add-put-pair-2 : tie.Need-add-put-pair-2 Inv-loop μ-loop
 add-put-pair-2 c = search needs
 
-add-small : tie.Need-add-small Inv-loop μ-loop
-add-small c = search needs
+add-put-pair-3 : tie.Need-add-put-pair-3 Inv-loop μ-loop
+add-put-pair-3 c = search needs
 
-small-requires : tie.Need-small-requires Inv-loop μ-loop
-small-requires c κs = search needs
+add-put-pair-4 : tie.Need-add-put-pair-4 Inv-loop μ-loop
+add-put-pair-4 c = search needs
 
-add-small-2 : tie.Need-add-small-2 Inv-loop μ-loop
-add-small-2 c = search needs
-
-add-small-3 : tie.Need-add-small-3 Inv-loop μ-loop
-add-small-3 c = search needs
-
-small-requires-2 : tie.Need-small-requires-2 Inv-loop μ-loop
-small-requires-2 c κs = search needs
+add-put-pair-5 : tie.Need-add-put-pair-5 Inv-loop μ-loop
+add-put-pair-5 c = search needs
 
 put-pair-requires : tie.Need-put-pair-requires Inv-loop μ-loop
 put-pair-requires c κs = search needs
@@ -63,11 +57,9 @@ put-flat-spec =
     loop-holds
     add-put-pair
     add-put-pair-2
-    add-small
-    small-requires
-    add-small-2
-    add-small-3
-    small-requires-2
+    add-put-pair-3
+    add-put-pair-4
+    add-put-pair-5
     put-pair-requires
     add-i
     loop-less

@@ -4,6 +4,9 @@ use borrow.Author.Needs.{needs}
 use Rattle.trees.proofs.put_pair.Statement.{statement}
 use Rattle.trees.proofs.put_pair.Tie as tie
 
+cast-pairs : tie.Need-cast-pairs
+cast-pairs c = search (second-place, needs)
+
 add-pairs : tie.Need-add-pairs
 add-pairs c = search (second-place, needs)
 
@@ -12,6 +15,9 @@ mul-pairs c = search (second-place, needs)
 
 slice-write-pairs : tie.Need-slice-write-pairs
 slice-write-pairs c = search (second-place, needs)
+
+cast-pairs-2 : tie.Need-cast-pairs-2
+cast-pairs-2 c = search (second-place, needs)
 
 add-pairs-2 : tie.Need-add-pairs-2
 add-pairs-2 c = search (second-place, needs)
@@ -34,17 +40,27 @@ returns c = search (second-place, needs)
 returns-2 : tie.Need-returns-2
 returns-2 c = search (second-place, needs)
 
+returns-3 : tie.Need-returns-3
+returns-3 c = search (second-place, needs)
+
+returns-4 : tie.Need-returns-4
+returns-4 c = search (second-place, needs)
+
 pub put-pair-spec : {M : Type 1} → statement M
 put-pair-spec =
     tie.close
     (tie.spec
+    cast-pairs
     add-pairs
     mul-pairs
     slice-write-pairs
+    cast-pairs-2
     add-pairs-2
     add-pairs-3
     mul-pairs-2
     slice-write-pairs-2
     same-length
     returns
-    returns-2)
+    returns-2
+    returns-3
+    returns-4)
