@@ -1,5 +1,5 @@
--- `Tree::new` on pairs and heights, and `validate` on all that a tree has: what they give, or what they refuse, "in the order of the
--- refusals' numbers". Scans go over the first m nodes. Definitions only. Assumes nothing.
+-- `Tree::new` on pairs and heights, and `validate` on all that a tree has: what they give, or what they refuse, in the order of the refusals'
+-- numbers. Scans go over the first m nodes. Definitions only. Assumes nothing.
 use mathlib.Core.Path.{_≡_}
 use mathlib.Core.Bool.{Bool, true, not, _&&_, _||_, cond}
 use mathlib.Core.List.{List, [], _∷_, _++_}

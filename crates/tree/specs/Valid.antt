@@ -1,5 +1,5 @@
 -- A tree of n nodes in order, said outright: sizes, who is whose child, a way up to the root from every node, and heights that do not fall
--- on that way. AcceptedLaws shows that these are the trees that `Tree::new` accepts. Definitions only. Assumes nothing.
+-- on that way. accepted/AcceptedLaws shows that these are the trees that `Tree::new` accepts. Definitions only. Assumes nothing.
 use mathlib.Core.Path.{_≡_}
 use mathlib.Core.Logic.{_≢_, _⊎_}
 use mathlib.Core.Bool.{not}
@@ -56,6 +56,6 @@ pub record Valid (n : ℕ) (t : Tree) : Type 0 where
   pub joined : (c : ℕ) → c < n → Reach t c
   pub dated : Dated n t
 
--- "with every child strictly younger than its parent"
+-- every child is strictly younger than its parent
 abbrev pub Strict : ℕ → Tree → Type 0
 Strict n t = (c : ℕ) → c < n → c ≢ t .root → T (lt (height t c) (height t (parent t c)))
