@@ -2,6 +2,7 @@
 // answered. Assumes nothing.
 use clades::Age;
 use clades::Monophyly;
+use lines::marks;
 use lines::number;
 use lines::refused;
 use lines::text;
@@ -19,29 +20,6 @@ const F_PAIRS: [u16; 10] = [NONE, NONE, NONE, NONE, NONE, NONE, 0, 1, 3, 2];
 const F_HEIGHTS: [f64; 5] = [0.0, 0.0, 0.0, 1.0, 2.0];
 
 const F_PARENTS: [u16; 5] = [3, 3, 4, 4, NONE];
-
-// A node, or a dash for none.
-fn mark(k: u16) {
-    if k == NONE {
-        text(b" -");
-    } else {
-        text(b" ");
-        number(k as u64);
-    }
-}
-
-// The first nine of a slice.
-fn marks(of: &[u16]) {
-    let mut i = 0;
-    while i < of.len() {
-        if i == 9 {
-            text(b" ...");
-            return;
-        }
-        mark(of[i]);
-        i += 1;
-    }
-}
 
 fn node(name: &[u8], answer: Node) {
     text(name);

@@ -1,9 +1,9 @@
--- `tree_f::marks` meets its contract. Assumes nothing.
+-- `lines::marks` meets its contract. Assumes nothing.
 use Prim.Native.Nat.{_-_, _≤_}
 use lib.ListN.{length}
 use borrow.Author.Needs.{needs}
-use Rattle.tree_f.proofs.marks.Statement.{statement}
-use Rattle.tree_f.proofs.marks.Tie as tie
+use Rattle.lines.proofs.marks.Statement.{statement}
+use Rattle.lines.proofs.marks.Tie as tie
 
 abbrev Inv-loop : tie.InvT-loop
 Inv-loop of i₀ t3 i = i ≤ length of
