@@ -229,26 +229,6 @@ fn put_heights(heights: &mut [f64]) {
     }
 }
 
-// A line on `new`, and one on the postorder.
-fn large(
-    name: &[u8],
-    pairs: &[u16],
-    heights: &[f64],
-    parents: &mut [u16],
-    order: &mut [u16],
-    root: usize,
-) {
-    made(name, pairs, heights, parents);
-    text(b"  in postorder: ");
-    match order::postorder(pairs, parents, heights, root, order) {
-        Verdict::Fine => text(b"fine"),
-        Verdict::Refused(why) => refused(why),
-    }
-    text(b", order");
-    marks(order);
-    text(b"\n");
-}
-
 fn put_pairs(pairs: &mut [u16], comb: bool) {
     if comb {
         put_comb(pairs);
@@ -273,10 +253,9 @@ fn largest(name: &[u8], comb: bool) {
     let mut heights = most_heights();
     let mut pairs = most_pairs();
     let mut parents = most_places();
-    let mut order = most_places();
     put_heights(&mut heights);
     put_pairs(&mut pairs, comb);
-    large(name, &pairs, &heights, &mut parents, &mut order, 4094);
+    made(name, &pairs, &heights, &mut parents);
 }
 
 fn too_large() {
