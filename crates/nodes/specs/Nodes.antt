@@ -8,7 +8,7 @@ use lib.ListN.{length, getD}
 use lib.Ieee.{Float, nan, binary64, add, sub}
 use Rattle.answer.specs.declared.Refusal.the-variants.{Size, Parameter}
 use Rattle.real.specs.Real as Real
-use Rattle.tree.specs.Tree.{noNode, nodesOf, firstIn, secondIn}
+use Rattle.tree.specs.Tree.{noNode, nodesOf, firstIn, secondIn, otherIn}
 use Rattle.nodes.specs.declared.Node.{Node}
 use Rattle.nodes.specs.declared.Node.the-variants as Nodes
 use Rattle.nodes.specs.declared.Pair.{Pair}
@@ -29,9 +29,9 @@ childrenOf pairs k =
     let b = secondIn pairs k in
     cond (ltb k (nodesOf pairs)) (cond (eqb a noNode && eqb b noNode) Pairs.Tip (Pairs.Of a b)) (Pairs.Refused (Parameter 0))
 
--- the child of p that is not k
+-- the child of p that is not k, if p is a node
 unfoldable pub otherChild : List ℕ → ℕ → ℕ → Node
-otherChild pairs k p = cond (ltb p (nodesOf pairs)) (Nodes.Is (cond (eqb (firstIn pairs p) k) (secondIn pairs p) (firstIn pairs p))) (Nodes.Refused (Parameter 0))
+otherChild pairs k p = cond (ltb p (nodesOf pairs)) (Nodes.Is (otherIn pairs p k)) (Nodes.Refused (Parameter 0))
 
 -- the other child of k's parent; the root's parent is no node, so that it has no sibling
 unfoldable pub siblingOf : List ℕ → List ℕ → ℕ → Node

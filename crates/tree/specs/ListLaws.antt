@@ -68,11 +68,12 @@ before-right l m h = (length l + h .0, (let b = h .1 in omega arith), getD-appen
 -- ---- where a number is
 
 -- the first place of c in l, or l's length if it has none
-unfoldable place : List ℕ → ℕ → ℕ
+unfoldable pub place : List ℕ → ℕ → ℕ
 place [] c = 0
 place (x ∷ xs) c = cond (eqb x c) 0 (suc (place xs c))
 
-place-holds : (l : List ℕ) (c : ℕ) → place l c < length l → getD l (place l c) 0 ≡ c
+-- a place before the end holds it
+pub place-holds : (l : List ℕ) (c : ℕ) → place l c < length l → getD l (place l c) 0 ≡ c
 unfolding place
 place-holds [] c h = absurd (omega arith)
 place-holds (x ∷ xs) c h = pick (ℕ-discrete x c) (place-holds xs c)
@@ -81,7 +82,8 @@ place-holds (x ∷ xs) c h = pick (ℕ-discrete x c) (place-holds xs c)
     pick (yes e) rest = rw (eq-eqb x c e) e
     pick (no d) rest = rw (ne-eqb x c d) (rest (let b : suc (place xs c) < suc (length xs) = (rw (ne-eqb x c d) at h) in omega arith))
 
-place-found : (l : List ℕ) (c : ℕ) → Has l c → place l c < length l
+-- what is in a list has a place before the end
+pub place-found : (l : List ℕ) (c : ℕ) → Has l c → place l c < length l
 unfolding place
 place-found [] c h = absurd (has-none h)
 place-found (x ∷ xs) c h = pick (ℕ-discrete x c) (place-found xs c)

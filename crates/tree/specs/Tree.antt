@@ -3,7 +3,7 @@
 use mathlib.Core.Bool.{Bool, cond}
 use mathlib.Core.List.{List, [], _∷_, _++_}
 use Prim.Native.Nat.{ℕ, zero, suc, _+_, _/_}
-use lib.Dec.{ltb}
+use lib.Dec.{ltb, eqb}
 use lib.ListN.{length, getD}
 use lib.Ieee.{Float, nan}
 
@@ -37,6 +37,10 @@ firstIn pairs k = getD pairs (k + k) 0
 abbrev pub secondIn : List ℕ → ℕ → ℕ
 secondIn pairs k = getD pairs (suc (k + k)) 0
 
+-- the child of p that is not k
+abbrev pub otherIn : List ℕ → ℕ → ℕ → ℕ
+otherIn pairs p k = cond (eqb (firstIn pairs p) k) (secondIn pairs p) (firstIn pairs p)
+
 abbrev pub first : Tree → ℕ → ℕ
 first t k = firstIn (t .pairs) k
 
@@ -48,6 +52,10 @@ parent t k = getD (t .parents) k 0
 
 unfoldable pub height : Tree → ℕ → Float
 height t k = getD (t .heights) k nan
+
+-- the other child of k's parent
+unfoldable pub sibling : Tree → ℕ → ℕ
+sibling t k = otherIn (t .pairs) (parent t k) k
 
 -- the nodes of k's subtree, the first child's before the second's and these before k; n nodes in all, no deeper than depth
 unfoldable pub subtree : ℕ → ℕ → List ℕ → ℕ → List ℕ
