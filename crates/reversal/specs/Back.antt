@@ -5,7 +5,8 @@ use mathlib.Core.Bool.{false}
 use Prim.Native.Nat.{ℕ, _+_, _≤_}
 use Rattle.tree.specs.Tree.{Tree, height}
 use Rattle.tree.specs.Valid.{Valid, Strict}
-use Rattle.rules.specs.Moves.{Reversible, Choice, Listed, declines, made, ratioOf, returningIn, Turned}
+use Rattle.rules.specs.Moves.{Reversible, Choice, Listed, declines, made, ratioOf}
+use Rattle.reversal.specs.Reversed.{returningIn, Turned}
 
 -- the tree made is valid and has the tips' ages, and the returning choice is admitted there and gives t back, the ratio turned over
 pub record Back (n : ℕ) (m : Reversible) (t : Tree) (c : Choice m) : Type 0 where

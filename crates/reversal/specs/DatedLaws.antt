@@ -1,9 +1,9 @@
 -- A node's new height keeps a tree in order: where it lies between those of its children and of its parent (`dated-set` for any tree with a
 -- shape, `set-valid` for a valid one). Assumes nothing.
-use mathlib.Core.Path.{_≡_, refl, sym, ap, _∙_, subst}
+use mathlib.Core.Path.{_≡_, sym, ap, _∙_, subst}
 use mathlib.Core.Logic.{_≢_, _⊎_, inl, inr}
 use mathlib.Core.Bool.{not}
-use Prim.Native.Nat.{ℕ, _+_, _≤_, _<_}
+use Prim.Native.Nat.{ℕ, _+_, _<_}
 use native.Mathlib.Decide.{ℕ-discrete}
 use lib.Dec.{T, not-T, T-not}
 use lib.ListN.{length}
@@ -13,7 +13,7 @@ use Rattle.real.specs.Real as Real
 use Rattle.real.specs.OrderLaws.{le-lt-trans}
 use Rattle.tree.specs.Tree.{Tree, first, second, parent, height}
 use Rattle.tree.specs.Valid.{Inner, Dated, Valid}
-use Rattle.edits.specs.Slots.{slotOf, setHeight}
+use Rattle.edits.specs.Slots.{setHeight}
 use Rattle.edits.specs.SlotLaws.{valid-shaped, shaped-valid, not-own-parent}
 use Rattle.edits.specs.HeightLaws.{set-shaped, set-parent, set-root, set-reach, height-same, height-other}
 

@@ -1,17 +1,15 @@
 -- Parents, children and siblings in a tree that is linked. In order: a shape is linked (`shaped-linked`); the other child of a node's parent
 -- (`Sibling`, `sibling-is`), and that there is no third (`sibling-only`); and nodes told apart by their heights (`differ`), where every child is
 -- strictly younger (`sibling-below`). Assumes nothing.
-use mathlib.Core.Path.{_≡_, refl, sym, ap, _∙_, subst}
+use mathlib.Core.Path.{_≡_, sym, _∙_, subst}
 use mathlib.Core.Logic.{_≢_, _⊎_, inl, inr}
-use mathlib.Core.Bool.{cond}
-use Prim.Native.Nat.{ℕ, _+_, _≤_, _<_}
-use native.Mathlib.Decide.{ℕ-discrete}
+use Prim.Native.Nat.{ℕ, _<_}
 use borrow.Author.Tests.{eq-eqb, ne-eqb}
 use lib.Dec.{T}
 use lib.Ieee.{lt}
 use Rattle.real.specs.OrderLaws.{lt-irrefl}
 use Rattle.tree.specs.Tree.{Tree, first, second, parent, height, sibling}
-use Rattle.tree.specs.Valid.{Inner, Below, Valid, Strict}
+use Rattle.tree.specs.Valid.{Inner, Valid, Strict}
 use Rattle.accepted.specs.Ways.{Linked}
 use Rattle.accepted.specs.WayLaws.{valid-linked, under-root}
 use Rattle.edits.specs.SlotLaws.{Shaped, shaped-inner, shaped-below, root-node, root-parent}

@@ -1,4 +1,10 @@
--- Demand 3. Back says of one choice what Reversal says of all; the rest are laws.
+-- Demand 3: Reversed says what it asks, Back the same of one choice on a valid tree. The rest are laws.
+pub mod Reversed
 pub mod Back
+pub mod FailedLaws
 pub mod FamilyLaws
 pub mod DatedLaws
+pub mod NodeHeightLaws
+pub mod ExchangeLaws
+pub mod WideLaws
+pub mod NarrowLaws

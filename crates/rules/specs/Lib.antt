@@ -1,4 +1,8 @@
--- The rules of the moves: Rules goes along document 01's lines, Moves is the five reversible moves as one. The
+-- The rules of the moves: Rules goes along document 01's lines, Moves takes the five reversible moves as one, Tests decides what is listed. The
 -- rest are laws.
 pub mod Rules
 pub mod Moves
+pub mod Tests
+pub mod IntervalLaws
+pub mod TestLaws
+pub mod Rows

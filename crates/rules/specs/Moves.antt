@@ -1,13 +1,12 @@
 -- The five reversible moves as one: a move's choices, what it lists, when it declines, what a choice makes of a tree and with which ratio
--- (Rules, move by move), and the choice that takes it back. Definitions only. Assumes nothing.
+-- (Rules, move by move). Definitions only. Assumes nothing.
 use mathlib.Core.Path.{_≡_}
 use mathlib.Core.Bool.{Bool, false}
-use Prim.Native.Nat.{ℕ, _<_}
+use Prim.Native.Nat.{ℕ}
 use lib.Ieee.{Float}
 use Rattle.answer.specs.declared.Ratio.{Ratio}
-use Rattle.answer.specs.declared.Ratio.the-variants.{Even, Counts, Lengths}
-use Rattle.tree.specs.Tree.{Tree, nodesOf, tipsOf, parent, height, sibling}
-use Rattle.tree.specs.ListLaws.{place}
+use Rattle.answer.specs.declared.Ratio.the-variants.{Even}
+use Rattle.tree.specs.Tree.{Tree, nodesOf}
 use Rattle.rules.specs.Rules as Rules
 
 -- the moves of demand 3, in its order
@@ -60,30 +59,3 @@ pub record Makes (m : Reversible) (t : Tree) (c : Choice m) (u : Tree) (r : Rati
   pub free : declines (nodesOf (t .pairs)) m t c ≡ false
   pub tree : made (nodesOf (t .pairs)) m t c ≡ u
   pub ratio : ratioOf (nodesOf (t .pairs)) m t c ≡ r
-
--- ---- taken back
-
--- the choice that takes back what c makes of t: the old height, the old sibling, and its place among the branches under the new sibling
-abbrev pub returningIn : ℕ → (m : Reversible) → Tree → Choice m → Choice m
-returningIn n NodeHeight t c = record { node = c .node; height = height t (c .node) }
-returningIn n SubtreeSlide t c =
-    let u = made n SubtreeSlide t c in
-    let old = height t (parent t (c .node)) in
-    record { node = c .node; height = old; index = place (Rules.branches n u old (sibling u (c .node))) (sibling t (c .node)) }
-returningIn n NarrowExchange t c = c
-returningIn n WideExchange t c = c
-returningIn n WilsonBalding t c = record { i = c .i; j = sibling t (c .i); height = height t (parent t (c .i)) }
-
-abbrev pub returning : (m : Reversible) → Tree → Choice m → Choice m
-returning m t c = returningIn (nodesOf (t .pairs)) m t c
-
--- "Turned over, a ratio keeps its kind and exchanges a and b, lengths by bits; even stays even"
-pub data Turned : Ratio → Ratio → Type 0 where
-  even : Turned Even Even
-  counts : {a b : ℕ} → Turned (Counts a b) (Counts b a)
-  lengths : {a b : Float} → Turned (Lengths a b) (Lengths b a)
-
--- u has t's tips at t's ages, in every bit
-pub record SameTips (t u : Tree) : Type 0 where
-  pub nodes : nodesOf (u .pairs) ≡ nodesOf (t .pairs)
-  pub ages : (k : ℕ) → k < tipsOf (nodesOf (t .pairs)) → height u k ≡ height t k

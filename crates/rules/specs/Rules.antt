@@ -1,9 +1,8 @@
 -- The rules of the moves, along the lines of document 01's "What each move chooses". For each move: what its line lists, when it declines,
--- the tree that a choice makes, and the ratio. t is a tree of n nodes. Heights are compared by `lt` and `le`: "older and younger go by
--- value", and "Interval ends are included". Definitions only. Assumes nothing.
+-- the tree that a choice makes, and the ratio. t is a tree of n nodes. Definitions only. Assumes nothing.
 use mathlib.Core.Path.{_≡_}
 use mathlib.Core.Logic.{_≢_, _⊎_}
-use mathlib.Core.Bool.{Bool, true, false, not, _&&_, _||_, cond}
+use mathlib.Core.Bool.{Bool, false, not, _&&_, _||_, cond}
 use mathlib.Core.List.{List, [], _∷_, _++_}
 use Prim.Native.Nat.{ℕ, zero, suc, _+_, _-_, _<_}
 use lib.Dec.{T, eqb}
@@ -28,6 +27,10 @@ internals n = n - tipsOf n
 abbrev pub floor : Tree → ℕ → Float
 floor t k = maxOf (height t (first t k)) (height t (second t k))
 
+-- a height from lower to upper: "Interval ends are included; older and younger go by value"
+abbrev pub within : Float → Float → Float → Bool
+within lower x upper = le lower x && le x upper
+
 -- i's parent P "goes onto another branch", the one over j: "the sibling first takes P's side under P's old parent, or becomes root; then P
 -- takes the side of the branch's lower node, or becomes root, and that node the sibling's side in P". "The chosen height goes" to P
 unfoldable pub regraft : ℕ → Tree → ℕ → ℕ → Float → Tree
@@ -40,8 +43,7 @@ pub record NodeHeightListed (n : ℕ) (t : Tree) (k : ℕ) (x : Float) : Type 0 
   pub node : k < n
   pub internal : n < k + k
   pub under : k ≢ t .root
-  pub low : T (le (floor t k) x)
-  pub high : T (le x (height t (parent t k)))
+  pub interval : T (within (floor t k) x (height t (parent t k)))
 
 -- "Declined if there is one internal node"
 abbrev pub nodeHeightDeclines : ℕ → Bool
@@ -185,8 +187,7 @@ pub record WilsonListed (n : ℕ) (t : Tree) (i j : ℕ) (x : Float) : Type 0 wh
   pub under-i : i ≢ t .root
   pub apart : j ≢ i
   pub over : (j ≡ t .root) ⊎ T (lt (height t i) (height t (parent t j)))
-  pub low : j ≢ t .root → T (le (maxOf (height t i) (height t j)) x)
-  pub high : j ≢ t .root → T (le x (height t (parent t j)))
+  pub interval : j ≢ t .root → T (within (maxOf (height t i) (height t j)) x (height t (parent t j)))
 
 -- from max(h(i), h(j)) to h(q)
 abbrev pub range : Tree → ℕ → ℕ → ℕ → Float
@@ -254,8 +255,7 @@ ceiling t k greatest = minOf greatest (height t (parent t k))
 -- "a tip; a height from its least age to the lower of greatest age and parent's"
 pub record TipAgeListed (n : ℕ) (t : Tree) (k : ℕ) (least greatest x : Float) : Type 0 where
   pub tip : k < tipsOf n
-  pub low : T (le least x)
-  pub high : T (le x (ceiling t k greatest))
+  pub interval : T (within least x (ceiling t k greatest))
 
 -- "Declined if that has no length"
 unfoldable pub tipAgeDeclines : Tree → ℕ → Float → Float → Bool

@@ -1,0 +1,144 @@
+-- Two nodes of a strictly dated tree that change places, neither being the other's parent nor above it (`Exchangeable`). In order: the root
+-- stays, and the two have each other's parents (`root-kept`, `parent-i`, `parent-j`, `parent-kept`); the tree made is valid (`swap-valid`).
+-- A way up from either parent climbs strictly above both nodes, so it is the old one. Assumes nothing.
+use mathlib.Core.Path.{_≡_, sym, ap, _∙_}
+use mathlib.Core.Logic.{_≢_}
+use Prim.Native.Nat.{ℕ, _<_}
+use lib.Dec.{T}
+use lib.Ieee.{lt, le}
+use lib.Ieee.Scale.{finite}
+use Rattle.real.specs.OrderLaws.{lt→le, le-lt-trans}
+use Rattle.tree.specs.Tree.{Tree, parent, height}
+use Rattle.tree.specs.Valid.{Reach, here, up, Dated, Valid, Strict}
+use Rattle.edits.specs.Slots.{swap}
+use Rattle.edits.specs.SlotLaws.{valid-shaped, shaped-valid, not-own-parent}
+use Rattle.edits.specs.TurnLaws.{Among2, is-a, is-b, other, among2, turn2-a, turn2-b, turn2-other, swap-shaped, parent-swap, root-swap, height-swap}
+use Rattle.reversal.specs.FamilyLaws.{differ}
+
+-- i and j are nodes with parents; neither is the other's parent, nor higher than the other's parent
+pub record Exchangeable (n : ℕ) (t : Tree) (i j : ℕ) : Type 0 where
+  pub node-i : i < n
+  pub node-j : j < n
+  pub under-i : i ≢ t .root
+  pub under-j : j ≢ t .root
+  pub free-i : parent t i ≢ j
+  pub free-j : parent t j ≢ i
+  pub low-i : T (le (height t i) (height t (parent t j)))
+  pub low-j : T (le (height t j) (height t (parent t i)))
+
+-- ---- root and parents
+
+module _ {n : ℕ} {t : Tree} (v : Valid n t) (i j : ℕ) (I : i < n) (J : j < n) where
+  -- the root stays the root
+  pub root-kept : i ≢ t .root → j ≢ t .root → (swap n t i j) .root ≡ t .root
+  root-kept a b = root-swap (valid-shaped v) i j I J ∙ turn2-other i j (t .root) (λ e. a (sym e)) (λ e. b (sym e))
+
+  -- i has the parent of j
+  pub parent-i : parent (swap n t i j) i ≡ parent t j
+  parent-i = parent-swap (valid-shaped v) i j I J i I ∙ ap (parent t) (turn2-a i j)
+
+  -- j has the parent of i
+  pub parent-j : parent (swap n t i j) j ≡ parent t i
+  parent-j = parent-swap (valid-shaped v) i j I J j J ∙ ap (parent t) (turn2-b i j)
+
+  -- any other keeps its own
+  pub parent-kept : (c : ℕ) → c < n → c ≢ i → c ≢ j → parent (swap n t i j) c ≡ parent t c
+  parent-kept c C a b = parent-swap (valid-shaped v) i j I J c C ∙ ap (parent t) (turn2-other i j c a b)
+
+-- ---- the tree made is valid
+
+module _ {n : ℕ} {t : Tree} (v : Valid n t) (st : Strict n t) (i j : ℕ) (x : Exchangeable n t i j) where
+  N : (c : ℕ) → c < n → T (finite (height t c))
+  N = v .dated .number
+
+  I : i < n
+  I = x .node-i
+
+  J : j < n
+  J = x .node-j
+
+  P : parent t i < n
+  P = v .below i I (x .under-i) .parent-node
+
+  Q : parent t j < n
+  Q = v .below j J (x .under-j) .parent-node
+
+  root : (swap n t i j) .root ≡ t .root
+  root = root-kept v i j I J (x .under-i) (x .under-j)
+
+  -- a node at least as high as a has a parent above it
+  rising : (a k : ℕ) → a < n → k < n → k ≢ t .root → T (le (height t a) (height t k)) → T (lt (height t a) (height t (parent t k)))
+  rising a k A K d h =
+      let p = parent t k in
+      le-lt-trans (height t a) (height t k) (height t p) (N a A) (N k K) (N p (v .below k K d .parent-node)) h (st k K d)
+
+  -- k is not one of the two, nor lower than either
+  record Over (k : ℕ) : Type 0 where
+    node : k < n
+    not-i : k ≢ i
+    not-j : k ≢ j
+    over-i : T (le (height t i) (height t k))
+    over-j : T (le (height t j) (height t k))
+
+  over-parent : (k : ℕ) → Over k → k ≢ t .root → Over (parent t k)
+  over-parent k o d =
+      let a = rising i k I (o .node) d (o .over-i) in
+      let b = rising j k J (o .node) d (o .over-j) in
+      record {
+        node = v .below k (o .node) d .parent-node;
+        not-i = differ t i (parent t k) a;
+        not-j = differ t j (parent t k) b;
+        over-i = lt→le (height t i) (height t (parent t k)) a;
+        over-j = lt→le (height t j) (height t (parent t k)) b;
+      }
+
+  -- a way that starts over both is the same way
+  high : {k : ℕ} → Reach t k → Over k → Reach (swap n t i j) k
+  high (here e) o = here (e ∙ sym root)
+  high (up {k} d r) o = up (λ e. d (e ∙ root)) (rw (parent-kept v i j I J k (o .node) (o .not-i) (o .not-j)) (high r (over-parent k o d)))
+
+  -- the two new parents are over both
+  over-P : Over (parent t i)
+  over-P = record {
+    node = P;
+    not-i = not-own-parent v i I (x .under-i);
+    not-j = x .free-i;
+    over-i = v .dated .ordered i I (x .under-i);
+    over-j = x .low-j;
+  }
+
+  over-Q : Over (parent t j)
+  over-Q = record {
+    node = Q;
+    not-i = x .free-j;
+    not-j = not-own-parent v j J (x .under-j);
+    over-i = x .low-i;
+    over-j = v .dated .ordered j J (x .under-j);
+  }
+
+  -- every node has a way up
+  ways : {k : ℕ} → Reach t k → k < n → Reach (swap n t i j) k
+  ways (here e) K = here (e ∙ sym root)
+  ways (up {k} d r) K = step (among2 i j k) K d (ways r (v .below k K d .parent-node))
+    where
+      step : {k : ℕ} → Among2 i j k → k < n → k ≢ t .root → Reach (swap n t i j) (parent t k) → Reach (swap n t i j) k
+      step is-a K d w = up (λ e. d (e ∙ root)) (rw (parent-i v i j I J) (high (v .joined (parent t j) Q) over-Q))
+      step (is-b z) K d w = up (λ e. d (e ∙ root)) (rw (parent-j v i j I J) (high (v .joined (parent t i) P) over-P))
+      step (other {u = k} a b) K d w = up (λ e. d (e ∙ root)) (rw (parent-kept v i j I J k K a b) w)
+
+  -- no node is above the parent that it has now
+  order : {c : ℕ} → Among2 i j c → c < n → c ≢ t .root → T (le (height t c) (height t (parent (swap n t i j) c)))
+  order is-a C d = rw (parent-i v i j I J) (x .low-i)
+  order (is-b z) C d = rw (parent-j v i j I J) (x .low-j)
+  order (other {u = c} a b) C d = rw (parent-kept v i j I J c C a b) (v .dated .ordered c C d)
+
+  dates : Dated n (swap n t i j)
+  dates = record {
+    number = λ c C. rw (height-swap n t i j c) (N c C);
+    positive = λ c C. rw (height-swap n t i j c) (v .dated .positive c C);
+    ordered = λ c C d. rw (height-swap n t i j c, height-swap n t i j (parent (swap n t i j) c)) (order (among2 i j c) C (λ e. d (e ∙ sym root)));
+  }
+
+  -- the tree in which the two have changed places is valid
+  pub swap-valid : Valid n (swap n t i j)
+  swap-valid = shaped-valid (swap-shaped (valid-shaped v) i j I J) (λ c C. ways (v .joined c C) C) dates
