@@ -2,9 +2,13 @@
 pub mod Reversed
 pub mod Back
 pub mod FailedLaws
+pub mod IntervalLaws
 pub mod FamilyLaws
 pub mod DatedLaws
 pub mod NodeHeightLaws
 pub mod ExchangeLaws
 pub mod WideLaws
 pub mod NarrowLaws
+pub mod GraftLaws
+pub mod GraftValidLaws
+pub mod WilsonLaws

@@ -14,8 +14,8 @@ use Rattle.edits.specs.Slots.{setHeight}
 use Rattle.edits.specs.SlotLaws.{not-root, not-own-parent}
 use Rattle.edits.specs.HeightLaws.{set-parent, height-other, set-back}
 use Rattle.rules.specs.Rules.{floor, NodeHeightListed}
-use Rattle.rules.specs.IntervalLaws.{within-low, within-high, within-is, within-finite}
 use Rattle.rules.specs.Moves.{NodeHeight}
+use Rattle.reversal.specs.IntervalLaws.{within-low, within-high, within-is, within-finite}
 use Rattle.reversal.specs.Reversed.{even}
 use Rattle.reversal.specs.Back.{Reverses}
 use Rattle.reversal.specs.DatedLaws.{set-valid}

@@ -3,6 +3,5 @@
 pub mod Rules
 pub mod Moves
 pub mod Tests
-pub mod IntervalLaws
 pub mod TestLaws
 pub mod Rows

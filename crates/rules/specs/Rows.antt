@@ -162,6 +162,11 @@ pub record OwnRows : Type 0 where
   pub height-high : Row NodeHeight F (height-of 3 2·0) (F-at 0·0 0·0 0·0 2·0) Even
   pub height-low : Row NodeHeight F (height-of 3 0·0) (F-at 0·0 0·0 0·0 0·0) Even
   pub height-minus : Row NodeHeight F (height-of 3 −0·0) (F-at 0·0 0·0 0·0 −0·0) Even
+  -- "one internal node", of three
+  pub height-one-internal : Rules.nodeHeightDeclines 3 ≡ true
+  pub narrow-one-internal : (t : Tree) (g : ℕ) → Rules.narrowDeclines 3 t g ≡ true
+  -- the second side
+  pub narrow-second : Row NarrowExchange F (narrow 4 false) (five 0 2 3 1 (3 ∷ 4 ∷ 3 ∷ 4 ∷ noNode ∷ []) (0·0 ∷ 0·0 ∷ 0·0 ∷ 1·0 ∷ 2·0 ∷ []) 4) (Counts 1 1)
   -- one grandparent before, two after
   pub narrow-counts : Row NarrowExchange paired (narrow 6 true) unpaired (Counts 1 2)
   -- both ends of the interval, and different ranges
@@ -173,6 +178,8 @@ pub record OwnRows : Type 0 where
   pub slide-second : Row SubtreeSlide (slid-at 0·0 0·0) (slide 0 1·0 1) (grafted-at 0·0 0·0 1·0) (Counts 2 1)
   -- onto a branch below the root's
   pub slide-middle : Row SubtreeSlide comb (slide 0 2·5 0) raised (Counts 1 2)
+  -- branches that were level with the old height are not listed for the way back
+  pub slide-none-back : Row SubtreeSlide (F-at 0·0 1·0 1·0 1·0) (slide 0 3·0 0) (slid-at 1·0 1·0) (Counts 1 0)
   -- up to the parent's height, and down to the sibling's: only the height changes
   pub slide-to-parent : Row SubtreeSlide F (slide 0 2·0 0) (F-at 0·0 0·0 0·0 2·0) Even
   pub slide-to-sibling : Row SubtreeSlide F (slide 0 0·0 0) (F-at 0·0 0·0 0·0 0·0) Even
@@ -183,8 +190,13 @@ pub record OwnRows : Type 0 where
   pub wide-level-j : Declined WideExchange (F-at 0·0 0·0 1·0 1·0) (wide 0 2)
   pub wide-level-i : Declined WideExchange (F-at 0·0 0·0 1·0 1·0) (wide 2 0)
   pub wide-siblings : Declined WideExchange F (wide 0 1)
-  -- a new range of zero
-  pub wilson-no-range : Declined WilsonBalding (F-at 0·0 0·0 2·0 1·0) (wilson 0 2 2·0)
+  -- j is the root, whatever the height is, the sibling, and p
+  pub wilson-onto-root : (x : Float) → Declined WilsonBalding F (wilson 0 4 x)
+  pub wilson-onto-sibling : Declined WilsonBalding F (wilson 0 1 0·5)
+  pub wilson-onto-parent : Declined WilsonBalding F (wilson 0 3 1·5)
+  -- a new range of zero, and an old one
+  pub wilson-no-new-range : Declined WilsonBalding (F-at 0·0 0·0 2·0 1·0) (wilson 0 2 2·0)
+  pub wilson-no-old-range : Declined WilsonBalding (F-at 0·0 2·0 0·0 2·0) (wilson 0 2 1·0)
 
 -- ---- rows of the moves that are not reversible
 
@@ -216,7 +228,8 @@ pub record ScaleRows : Type 0 where
   pub tip-low : T (tipAgeLists 5 F 2 0·5 3·0 0·5)
   pub tip-high : T (tipAgeLists 5 F 2 0·5 3·0 2·0)
   pub tip-greatest : T (tipAgeLists 5 F 2 0·5 1·5 1·5)
-  pub tip-above : tipAgeLists 5 F 2 0·5 1·5 2·0 ≡ false
+  pub tip-over-greatest : tipAgeLists 5 F 2 0·5 1·5 2·0 ≡ false
+  pub tip-over-parent : tipAgeLists 5 F 2 0·5 3·0 2·5 ≡ false
   pub tip-moved : Rules.tipMoved F 2 1·5 ≡ F-at 0·0 0·0 1·5 1·0
   -- an interval, and one without a length
   pub tip-admitted : Rules.tipAgeDeclines F 2 0·5 1·5 ≡ false
@@ -263,12 +276,16 @@ own-rows = record {
   height-high = row refl tt refl refl refl;
   height-low = row refl tt refl refl refl;
   height-minus = row refl tt refl refl refl;
+  height-one-internal = refl;
+  narrow-one-internal = λ t g. refl;
+  narrow-second = row refl tt refl refl refl;
   narrow-counts = row refl tt refl refl refl;
   wilson-high = row refl tt refl refl refl;
   wilson-low = row refl tt refl refl refl;
   slide-level = row refl tt refl refl refl;
   slide-second = row refl tt refl refl refl;
   slide-middle = row refl tt refl refl refl;
+  slide-none-back = row refl tt refl refl refl;
   slide-to-parent = row refl tt refl refl refl;
   slide-to-sibling = row refl tt refl refl refl;
   slide-under-node = declined-row refl tt refl;
@@ -276,7 +293,11 @@ own-rows = record {
   wide-level-j = declined-row refl tt refl;
   wide-level-i = declined-row refl tt refl;
   wide-siblings = declined-row refl tt refl;
-  wilson-no-range = declined-row refl tt refl;
+  wilson-onto-root = λ x. declined-row refl tt refl;
+  wilson-onto-sibling = declined-row refl tt refl;
+  wilson-onto-parent = declined-row refl tt refl;
+  wilson-no-new-range = declined-row refl tt refl;
+  wilson-no-old-range = declined-row refl tt refl;
 }
 
 pub scale-rows : ScaleRows
@@ -294,7 +315,8 @@ scale-rows = record {
   tip-low = tt;
   tip-high = tt;
   tip-greatest = tt;
-  tip-above = refl;
+  tip-over-greatest = refl;
+  tip-over-parent = refl;
   tip-moved = refl;
   tip-admitted = refl;
   tip-declined = refl;

@@ -1,5 +1,5 @@
 -- The tests of what the lines list agree with the lists: `Agrees`, how tests that agree are put together, and then each move's
--- (`lists-agree` for the five reversible moves, `tip-age-agrees`). Assumes nothing.
+-- (`lists-agree` and `admits-agree` for the five reversible moves, `tip-age-agrees`). Assumes nothing.
 use mathlib.Core.Path.{_≡_, refl, subst}
 use mathlib.Core.Logic.{_≢_, _⊎_, inl, inr}
 use mathlib.Core.Bool.{Bool, true, false, not, _&&_, _||_}
@@ -13,8 +13,8 @@ use lib.Ieee.Scale.{finite}
 use Rattle.real.specs.Real.{maxOf}
 use Rattle.tree.specs.Tree.{Tree, tipsOf, parent, height, sibling}
 use Rattle.rules.specs.Rules.{floor, within, branches, lowers, slideDeclines, grand, ceiling, NodeHeightListed, SlideListed, NarrowListed, WideListed, WilsonListed, TipAgeListed}
-use Rattle.rules.specs.Moves.{Reversible, NodeHeight, SubtreeSlide, NarrowExchange, WideExchange, WilsonBalding, Choice, Listed}
-use Rattle.rules.specs.Tests.{nonRoot, nodeHeightLists, slideLists, narrowLists, wideLists, onBranch, wilsonLists, tipAgeLists, lists}
+use Rattle.rules.specs.Moves.{Reversible, NodeHeight, SubtreeSlide, NarrowExchange, WideExchange, WilsonBalding, Choice, Listed, declines}
+use Rattle.rules.specs.Tests.{nonRoot, nodeHeightLists, slideLists, narrowLists, wideLists, onBranch, wilsonLists, tipAgeLists, lists, admits}
 
 -- the test holds exactly where A does
 pub record Agrees (A : Type 0) (test : Bool) : Type 0 where
@@ -58,6 +58,11 @@ unless {A} false {a} x = record { passed = λ h e. x .passed h; passes = λ h. x
 where-so : {A : Type 0} (b : Bool) {a : Bool} → Agrees A a → Agrees (T b → A) (not b || a)
 where-so {A} true {a} x = record { passed = λ h e. x .passed h; passes = λ h. x .passes (h tt) }
 where-so {A} false {a} x = record { passed = λ h e. absurd e; passes = λ h. tt }
+
+-- a test that fails
+fails : (b : Bool) → Agrees (b ≡ false) (not b)
+fails true = record { passed = λ h. absurd h; passes = λ e. subst T e tt }
+fails false = record { passed = λ h. refl; passes = λ e. tt }
 
 under : (a b : ℕ) → Agrees (a < b) (ltb a b)
 under a b = record { passed = ltb→lt a b; passes = lt→ltb a b }
@@ -148,6 +153,10 @@ lists-agree n SubtreeSlide t c = slide-agrees n t (c .node) (c .height) (c .inde
 lists-agree n NarrowExchange t c = narrow-agrees n t (c .node)
 lists-agree n WideExchange t c = wide-agrees n t (c .i) (c .j)
 lists-agree n WilsonBalding t c = wilson-agrees n t (c .i) (c .j) (c .height)
+
+-- what it admits is what the test of both passes
+pub admits-agree : (n : ℕ) (m : Reversible) (t : Tree) (c : Choice m) → Agrees (Listed n m t c × (declines n m t c ≡ false)) (admits n m t c)
+admits-agree n m t c = both (lists-agree n m t c) (fails (declines n m t c))
 
 -- so with tip ages
 pub tip-age-agrees : (n : ℕ) (t : Tree) (k : ℕ) (least greatest x : Float) → Agrees (TipAgeListed n t k least greatest x) (tipAgeLists n t k least greatest x)
