@@ -1,4 +1,4 @@
--- Demand 3: Reversed says what it asks, Back the same of one choice on a valid tree. The rest are laws.
+-- Demand 3: Reversed says what it asks, Reversal that it is so. Back asks the same of one choice on a valid tree; the rest are laws.
 pub mod Reversed
 pub mod Back
 pub mod FailedLaws
@@ -12,3 +12,11 @@ pub mod NarrowLaws
 pub mod GraftLaws
 pub mod GraftValidLaws
 pub mod WilsonLaws
+pub mod BranchLaws
+pub mod SlideWayLaws
+pub mod SlideHeightLaws
+pub mod SlideOntoLaws
+pub mod SlideUpLaws
+pub mod SlideDownLaws
+pub mod SlideLaws
+pub mod Reversal

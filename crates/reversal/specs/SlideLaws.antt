@@ -1,0 +1,74 @@
+-- SubtreeSlide is undone by SubtreeSlide: on each of its ways the returning choice gives the tree back (`slide-reverses`). Assumes nothing.
+use mathlib.Core.Path.{_≡_, refl}
+use mathlib.Core.Logic.{_≢_, _⊎_, inl, inr}
+use mathlib.Core.Bool.{true, not}
+use Prim.Native.Nat.{ℕ}
+use lib.Dec.{T}
+use lib.Ieee.{Float, lt, le}
+use Rattle.real.specs.OrderLaws.{lt→le, le-trans, lt-trans, nlt→le}
+use Rattle.tree.specs.Tree.{Tree, parent, height, sibling}
+use Rattle.rules.specs.Rules.{rises, slid, slideRatio}
+use Rattle.rules.specs.Moves.{SubtreeSlide}
+use Rattle.reversal.specs.Back.{Reverses}
+use Rattle.reversal.specs.FailedLaws.{passed, lt-false}
+use Rattle.reversal.specs.BranchLaws.{Climb, stops, goes, branches-sound}
+use Rattle.reversal.specs.SlideWayLaws.{Slides, up, level, down, slides, slid-only, ratio-only, slid-onto, ratio-up, ratio-down, Returns, returns-back}
+use Rattle.reversal.specs.SlideHeightLaws.{Sliding, parent-node, sibling-kin, number-node, number-parent, number-sibling, number-grand, node-low, sibling-low, height-returns}
+use Rattle.reversal.specs.SlideUpLaws.{up-grafts, up-returns}
+use Rattle.reversal.specs.SlideDownLaws.{down-grafts, down-returns}
+
+module _ {n : ℕ} {t : Tree} {i : ℕ} {x : Float} (g : Sliding n t i x) (index : ℕ) where
+  Returned : Type 0
+  Returned = Returns n t i (slid n t i x index) (slideRatio n t i x index)
+
+  -- only the height changes
+  by-height : {j : ℕ} → Slides n t i x index j → j ≡ parent t i → T (le (height t i) x) → T (le (height t (sibling t i)) x)
+      → (parent t i ≢ t .root → T (le x (height t (parent t (parent t i))))) → Returned
+  unfolding Returned
+  by-height s e a b h =
+      let P = parent-node g in
+      rw (slid-only (g .valid) P s e, ratio-only (g .valid) P s e) (height-returns g a b h)
+
+  -- upwards
+  rising : {j : ℕ} → rises t i x ≡ true → Climb t x (parent t i) j → Returned
+  unfolding Returned
+  rising r (stops e) = by-height (up r (stops e)) refl
+      (lt→le (height t i) x (lt-trans _ _ _ (number-node g) (number-parent g) (g .number) (node-low g) p))
+      (lt→le (height t (sibling t i)) x (lt-trans _ _ _ (number-sibling g) (number-parent g) (g .number) (sibling-low g) p)) (over e)
+    where
+      p : T (lt (height t (parent t i)) x)
+      p = passed (rises t i x) r
+
+      over : (parent t i ≡ t .root) ⊎ T (not (lt (height t (parent t (parent t i))) x)) → parent t i ≢ t .root
+          → T (le x (height t (parent t (parent t i))))
+      over (inl e) d = absurd (d e)
+      over (inr h) d = nlt→le (height t (parent t (parent t i))) x (number-grand g d) (g .number) h
+  rising {j} r (goes d q c) =
+      let P = parent-node g in
+      let s : Slides n t i x index j = up r (goes d q c) in
+      let a = up-grafts g d q c .not-parent in
+      rw (slid-onto (g .valid) P s a, ratio-up (g .valid) P s a r (slid-onto (g .valid) P s a)) (up-returns g d q c)
+
+  -- each way
+  returned : {j : ℕ} → Slides n t i x index j → Returned
+  unfolding Returned
+  returned (up r c) = rising r c
+  returned (level r a b) = by-height (level r a b) refl (lt-false x (height t i) (g .number) (number-node g) a)
+      (lt-false x (height t (sibling t i)) (g .number) (number-sibling g) b)
+      (λ d. le-trans _ _ _ (g .number) (number-parent g) (number-grand g d) (lt-false (height t (parent t i)) x (number-parent g) (g .number) r)
+      (g .valid .dated .ordered (parent t i) (parent-node g) d))
+  returned {j} (down r a b k e) =
+      let P = parent-node g in
+      let s : Slides n t i x index j = down r a b k e in
+      let low : T (le (height t i) x) = lt-false x (height t i) (g .number) (number-node g) a in
+      let q : T (lt x (height t (sibling t i))) = passed _ b in
+      let y = branches-sound (g .valid) x (sibling-kin g .node) (index, k, e) in
+      let d = down-grafts g low q y .not-parent in
+      rw (slid-onto (g .valid) P s d, ratio-down (g .valid) P s d r) (down-returns g low q y)
+
+-- an admitted slide is undone by the returning one
+pub slide-reverses : Reverses SubtreeSlide
+unfolding Returned
+slide-reverses n t v st c l f =
+    let g : Sliding n t (c .node) (c .height) = record { valid = v; strict = st; node = l .node; under = l .under; number = l .number } in
+    returns-back v (l .node) (l .under) (returned g (c .index) (slides v l f))
