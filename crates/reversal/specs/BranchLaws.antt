@@ -1,6 +1,6 @@
 -- The branches that SubtreeSlide looks for, in a valid tree. In order: going up while the next node is below a height (`Climb`), which is what
 -- `climb` does (`climb-is`, `climb-only`); the branches under a node that span a height (`Branch`), and that `branches` lists them and no others
--- (`branches-sound`, `branches-complete`). Assumes nothing.
+-- (`branches-sound`, `branches-complete`); and where one need not look further down (`branches-none`, `branches-inner`). Assumes nothing.
 use mathlib.Core.Path.{_≡_, refl, sym, _∙_, subst}
 use mathlib.Core.Logic.{_≢_, _⊎_, inl, inr}
 use mathlib.Core.Bool.{Bool, true, false, not, _&&_, cond, and-false}
@@ -9,15 +9,19 @@ use Prim.Native.Nat.{ℕ, zero, suc, _+_, _≤_, _<_}
 use native.Mathlib.Omega.{arith}
 use native.Mathlib.Decide.{decLe}
 use borrow.Author.Tests.{eq-eqb, ne-eqb, lt-ltb, le-ltb}
-use lib.Dec.{T}
+use lib.Dec.{T, T-not}
 use lib.Ieee.{Float, lt}
 use lib.Ieee.Bits.{is-true, is-false}
+use lib.Ieee.Scale.{finite}
+use Rattle.real.specs.OrderLaws.{le-lt-trans}
 use Rattle.tree.specs.Tree.{Tree, first, second, parent, height}
 use Rattle.tree.specs.Valid.{Inner, Below, Valid}
 use Rattle.tree.specs.ListLaws.{Has, has-none, has-one, has-left, has-right, has-cases}
 use Rattle.accepted.specs.Ways.{Linked, Way, arrived, climbs, Under, itself, through}
 use Rattle.accepted.specs.WayLaws.{valid-linked, under-root, first-way, second-way, way, way-short, under-parent}
 use Rattle.rules.specs.Rules.{climb, spanning, crossing, branches}
+use Rattle.reversal.specs.FailedLaws.{passed}
+use Rattle.reversal.specs.FamilyLaws.{under-le}
 
 -- ---- going up
 
@@ -95,6 +99,10 @@ module _ (n : ℕ) (t : Tree) (x : Float) where
   level-tip : (k : ℕ) → k + k ≤ n → (f : ℕ) → crossing (suc f) n t x k ≡ []
   unfolding crossing
   level-tip k i f = rw (le-ltb n (k + k) i)
+
+-- from a node that is not below x down to its child c and on: the branch to c, or those under c
+abbrev pub onSide : ℕ → Tree → Float → ℕ → List ℕ
+onSide n t x c = cond (lt (height t c) x) (c ∷ []) (branches n t x c)
 
 module _ {n : ℕ} {t : Tree} (v : Valid n t) (x : Float) where
   linked : Linked n t
@@ -196,3 +204,37 @@ module _ {n : ℕ} {t : Tree} (v : Valid n t) (x : Float) where
   unfolding side
   branches-complete {k} {j} b = listed-up (b .under) j (listed-above j j (b .node) (b .under-root)
       (has-left (spanning t x (parent t j) j) (crossing n n t x j) (spans t x (parent t j) j (b .lower) (b .upper))))
+
+  -- ---- where the heights are in order
+
+  -- no branch under a node that is below the height spans it
+  pub branches-none : {k : ℕ} → k < n → T (finite x) → T (lt (height t k) x) → branches n t x k ≡ []
+  branches-none {k} K X h = empty (branches n t x k) (λ j e. none (branches-sound K e))
+    where
+      none : {j : ℕ} → Branch n t x k j → ⊥
+      none {j} b =
+          let P : parent t j < n = v .below j (b .node) (b .under-root) .parent-node in
+          T-not (lt (height t (parent t j)) x) (b .upper)
+          (le-lt-trans _ _ _ (v .dated .number (parent t j) P) (v .dated .number k K) X (under-le v (b .under) P .1) h)
+
+      empty : (l : List ℕ) → ((j : ℕ) → Has l j → ⊥) → l ≡ []
+      empty [] f = refl
+      empty (j ∷ l) f = absurd (f j (0, omega arith, refl))
+
+  -- and under a node that is not below it, the branch to a child that is below it is the only one on that side
+  pub branches-inner : {k : ℕ} → k < n → n < k + k → T (finite x) → T (not (lt (height t k) x))
+      → branches n t x k ≡ onSide n t x (first t k) ++ onSide n t x (second t k)
+  branches-inner {k} K I X h = deeper ∙ level-inner n t x k I n ∙ unfold side in (rw (one (first t k) (y .first-node), one (second t k) (y .second-node)))
+    where
+      y : Inner n t k
+      y = v .inner k K I
+
+      deeper : crossing n n t x k ≡ crossing (suc n) n t x k
+      deeper = let w = way (v .joined k K) in deep-enough n k (w .0) K (w .1) (omega arith)
+
+      one : (c : ℕ) → c < n → side n t x n k c ≡ onSide n t x c
+      one c C = go (lt (height t c) x) refl
+        where
+          go : (b : Bool) → lt (height t c) x ≡ b → side n t x n k c ≡ onSide n t x c
+          go true e = unfold side in (rw (e, is-false (lt (height t k) x) h, branches-none C X (passed (lt (height t c) x) e)))
+          go false e = unfold side in (rw e)

@@ -1,5 +1,5 @@
 -- Two nodes of a strictly dated tree that change places, neither being the other's parent nor above it (`Exchangeable`). In order: the root
--- stays, and the two have each other's parents (`root-kept`, `parent-i`, `parent-j`, `parent-kept`); the tree made is valid (`swap-valid`).
+-- stays, and the two have each other's parents (`root-kept`, `parent-i`, `parent-j`); the tree made is valid (`swap-valid`).
 -- A way up from either parent climbs strictly above both nodes, so it is the old one. Assumes nothing.
 use mathlib.Core.Path.{_≡_, sym, ap, _∙_}
 use mathlib.Core.Logic.{_≢_}
@@ -42,7 +42,7 @@ module _ {n : ℕ} {t : Tree} (v : Valid n t) (i j : ℕ) (I : i < n) (J : j < n
   parent-j = parent-swap (valid-shaped v) i j I J j J ∙ ap (parent t) (turn2-b i j)
 
   -- any other keeps its own
-  pub parent-kept : (c : ℕ) → c < n → c ≢ i → c ≢ j → parent (swap n t i j) c ≡ parent t c
+  parent-kept : (c : ℕ) → c < n → c ≢ i → c ≢ j → parent (swap n t i j) c ≡ parent t c
   parent-kept c C a b = parent-swap (valid-shaped v) i j I J c C ∙ ap (parent t) (turn2-other i j c a b)
 
 -- ---- the tree made is valid

@@ -1,9 +1,9 @@
--- What tests say that passed or failed, in the form `≡ false` in which a move is not declined. In order: a test and its proof; tests joined by
--- `||` that all fail, and by `&&` that do not all pass; and comparisons of finite floats that fail, which hold the other way round.
+-- What tests say that passed or failed, in the form `≡ false` in which a move is not declined. In order: a test and its proof; two tests joined
+-- by `||` that both fail; and comparisons of finite floats that fail, which hold the other way round.
 -- The library has a test's value from its proof (`is-true`, `is-false` of lib.Ieee.Bits) and naturals compared (borrow.Author.Tests: `eqb-false`,
 -- `ne-eqb`). Assumes nothing.
 use mathlib.Core.Path.{_≡_, refl, sym, subst}
-use mathlib.Core.Bool.{Bool, true, false, not, _&&_, _||_}
+use mathlib.Core.Bool.{Bool, true, false, not, _||_}
 use lib.Dec.{T, not-T}
 use lib.Ieee.{Float, lt, le}
 use lib.Ieee.Bits.{is-false}
@@ -21,7 +21,7 @@ pub failed : (b : Bool) → b ≡ false → T (not b)
 failed b e = subst (λ (c : Bool). T (not c)) (sym e) tt
 
 -- a test that cannot pass is false
-pub never : (b : Bool) → (T b → ⊥) → b ≡ false
+never : (b : Bool) → (T b → ⊥) → b ≡ false
 never b h = is-false b (not-T b h)
 
 -- ---- joined tests
@@ -35,26 +35,6 @@ or-first false q e = refl
 pub or-second : (p q : Bool) → (p || q) ≡ false → q ≡ false
 or-second true q e = absurd (subst T e tt)
 or-second false q e = e
-
--- two tests that fail, joined
-pub neither : (p q : Bool) → p ≡ false → q ≡ false → (p || q) ≡ false
-neither true q a b = a
-neither false q a b = b
-
--- where not both of two tests pass, and the first does, the second fails
-pub and-second : (p q : Bool) → (p && q) ≡ false → T p → q ≡ false
-and-second true q e h = e
-and-second false q e h = absurd h
-
--- two tests of which the first fails, joined
-pub not-first : (p q : Bool) → p ≡ false → (p && q) ≡ false
-not-first true q a = absurd (subst T a tt)
-not-first false q a = refl
-
--- two tests of which the second fails, joined
-pub not-second : (p q : Bool) → q ≡ false → (p && q) ≡ false
-not-second true q b = b
-not-second false q b = refl
 
 -- ---- comparisons
 

@@ -1,16 +1,16 @@
 -- Parents, children and siblings in a tree that is linked. In order: a shape is linked (`shaped-linked`); the other child of a node's parent
--- (`Sibling`, `sibling-is`), and that there is no third (`sibling-only`); and nodes told apart by their heights (`differ`), where every child is
--- strictly younger (`sibling-below`). Assumes nothing.
+-- (`Sibling`, `sibling-is`), and that there is no third (`sibling-only`); heights of the nodes under a node (`under-le`), nodes told apart by
+-- their heights (`differ`), and the sibling's where every child is strictly younger (`sibling-below`). Assumes nothing.
 use mathlib.Core.Path.{_≡_, sym, _∙_, subst}
 use mathlib.Core.Logic.{_≢_, _⊎_, inl, inr}
 use Prim.Native.Nat.{ℕ, _<_}
 use borrow.Author.Tests.{eq-eqb, ne-eqb}
 use lib.Dec.{T}
-use lib.Ieee.{lt}
-use Rattle.real.specs.OrderLaws.{lt-irrefl}
+use lib.Ieee.{lt, le}
+use Rattle.real.specs.OrderLaws.{lt-irrefl, le-refl, le-trans}
 use Rattle.tree.specs.Tree.{Tree, first, second, parent, height, sibling}
 use Rattle.tree.specs.Valid.{Inner, Valid, Strict}
-use Rattle.accepted.specs.Ways.{Linked}
+use Rattle.accepted.specs.Ways.{Linked, Under, itself, through}
 use Rattle.accepted.specs.WayLaws.{valid-linked, under-root}
 use Rattle.edits.specs.SlotLaws.{Shaped, shaped-inner, shaped-below, root-node, root-parent}
 
@@ -78,7 +78,15 @@ module _ {n : ℕ} {t : Tree} (l : Linked n t) (i : ℕ) (I : i < n) (r : i ≢ 
       go (is-first f) (inl g) = g
       go (is-first f) (inr g) = absurd (x (g ∙ sym f))
 
--- ---- told apart by heights
+-- ---- heights
+
+-- a node under k is no higher
+pub under-le : {n : ℕ} {t : Tree} → Valid n t → {c k : ℕ} → Under n t c k → c < n → (k < n) × T (le (height t c) (height t k))
+under-le {n} {t} v (itself {k}) C = (C, le-refl (height t k) (v .dated .number k C))
+under-le {n} {t} v (through {c} {k} C′ d u) C =
+    let P : parent t c < n = v .below c C d .parent-node in
+    let r = under-le v u P in
+    (r .0, le-trans _ _ _ (v .dated .number c C) (v .dated .number (parent t c) P) (v .dated .number k (r .0)) (v .dated .ordered c C d) (r .1))
 
 -- a node above another is another node
 pub differ : (t : Tree) (a k : ℕ) → T (lt (height t a) (height t k)) → k ≢ a

@@ -1,4 +1,4 @@
--- A slide downwards onto a branch under the sibling. In order: heights of the nodes under a node; the way up from P to the old sibling in the tree
+-- A slide downwards onto a branch under the sibling. In order: the branch's ends; the way up from P to the old sibling in the tree
 -- made; and that the returning slide goes it (`down-returns`). Assumes nothing.
 use mathlib.Core.Path.{_≡_, refl, sym, _∙_, subst}
 use mathlib.Core.Logic.{_≢_, _⊎_, inl, inr}
@@ -11,28 +11,18 @@ use lib.Ieee.{Float, lt, le}
 use lib.Ieee.Bits.{is-true}
 use lib.Ieee.Scale.{finite}
 use Rattle.answer.specs.declared.Ratio.the-variants.{Counts}
-use Rattle.real.specs.OrderLaws.{lt-irrefl, lt→le, le-refl, le-trans, lt-trans, lt-le-trans, le-lt-trans, lt-le-absurd, nlt→le}
+use Rattle.real.specs.OrderLaws.{lt-irrefl, lt→le, lt-trans, lt-le-trans, le-lt-trans, lt-le-absurd, nlt→le}
 use Rattle.tree.specs.Tree.{Tree, parent, height, sibling}
 use Rattle.tree.specs.Valid.{Valid}
 use Rattle.accepted.specs.Ways.{Under, itself, through}
 use Rattle.rules.specs.Rules.{regraft, branches}
-use Rattle.reversal.specs.FamilyLaws.{differ}
+use Rattle.reversal.specs.FamilyLaws.{under-le, differ}
 use Rattle.reversal.specs.GraftLaws.{Grafts, graft-node, graft-old-sibling, graft-parent, graft-other, graft-height, graft-root-sibling, graft-under, graft-parent-under}
 use Rattle.reversal.specs.GraftValidLaws.{graft-valid}
 use Rattle.reversal.specs.BranchLaws.{Climb, stops, goes, Branch}
 use Rattle.reversal.specs.SlideWayLaws.{Slides, up, backIndex, Returns}
 use Rattle.reversal.specs.SlideHeightLaws.{Sliding, parent-node, sibling-kin, number-parent, number-sibling, sibling-low, grand-apart, old-under-grand}
 use Rattle.reversal.specs.SlideOntoLaws.{onto-height, returns-up}
-
--- ---- under a node
-
--- a node under k is no higher
-under-le : {n : ℕ} {t : Tree} → Valid n t → {m k : ℕ} → Under n t m k → m < n → (k < n) × T (le (height t m) (height t k))
-under-le {n} {t} v (itself {k}) M = (M, le-refl (height t k) (v .dated .number k M))
-under-le {n} {t} v (through {c = m} {k} C d u) M =
-    let P : parent t m < n = v .below m M d .parent-node in
-    let r = under-le v u P in
-    (r .0, le-trans _ _ _ (v .dated .number m M) (v .dated .number (parent t m) P) (v .dated .number k (r .0)) (v .dated .ordered m M d) (r .1))
 
 -- a node under another has its parent under that too
 under-next : {n : ℕ} {t : Tree} {m k : ℕ} → Under n t m k → m ≢ k → Under n t (parent t m) k
