@@ -7,7 +7,7 @@ use mathlib.Core.Logic.{_≢_}
 use mathlib.Core.Bool.{Bool, true, false, not, _||_, cond, or-true}
 use Prim.Native.Nat.{ℕ, _+_, _<_}
 use borrow.Author.Tests.{ltb-true, lt-ltb, not-false}
-use lib.Dec.{T, eqb, ltb→lt}
+use lib.Dec.{T, ltb→lt}
 use lib.Ieee.{lt, le}
 use lib.Ieee.Bits.{is-true}
 use lib.Ieee.Fits.{and-l}
@@ -18,7 +18,7 @@ use Rattle.tree.specs.Valid.{Inner, Valid, Strict}
 use Rattle.edits.specs.Slots.{swap}
 use Rattle.edits.specs.SlotLaws.{valid-shaped, not-root}
 use Rattle.edits.specs.TurnLaws.{turn2, turn2-a, turn2-b, turn2-other, height-swap, first-swap, second-swap, swap-back, swap-comm}
-use Rattle.rules.specs.Rules.{internals, grand, taller, uncle, sideOf, NarrowListed, narrowDeclines, narrowed, narrowRatio}
+use Rattle.rules.specs.Rules.{oneInternal, grand, taller, uncle, sideOf, NarrowListed, narrowDeclines, narrowed, narrowRatio}
 use Rattle.rules.specs.Moves.{NarrowExchange}
 use Rattle.reversal.specs.Reversed.{Turned, counts}
 use Rattle.reversal.specs.Back.{Reverses}
@@ -134,7 +134,7 @@ nest {n} {t} v g coin l e = record {
     i = v .inner g (l .node) G
 
     P : n < taller t g + taller t g
-    P = ltb-true n (taller t g + taller t g) (not-false (inner n (taller t g)) (or-second (eqb (internals n) 1) (not (inner n (taller t g))) e))
+    P = ltb-true n (taller t g + taller t g) (not-false (inner n (taller t g)) (or-second (oneInternal n) (not (inner n (taller t g))) e))
 
     c : (sideOf t coin (taller t g) < n) × (parent t (sideOf t coin (taller t g)) ≡ taller t g)
     c = side-child (v .inner (taller t g) (kids i (seated t g) .node-P) P) coin
@@ -213,7 +213,7 @@ module _ {n : ℕ} {t : Tree} (v : Valid n t) (st : Strict n t) {g P w c : ℕ} 
   listed = record { node = x .node-g; grandparent = is-grand (x .inner-g) (x .inner-P) seats-after }
 
   -- and the move is not declined
-  free : eqb (internals n) 1 ≡ false → narrowDeclines n u g ≡ false
+  free : oneInternal n ≡ false → narrowDeclines n u g ≡ false
   unfolding narrowDeclines
   free e = rw (e, told-after .0, lt-ltb n (P + P) (x .inner-P))
 
@@ -241,7 +241,7 @@ narrow-reverses n t v st c l e =
       valid = valid v st x;
       tips = λ k h. height-swap n t _ _ k;
       listed = listed v st x;
-      free = free v st x (or-first (eqb (internals n) 1) (not (inner n (taller t (c .node)))) e);
+      free = free v st x (or-first (oneInternal n) (not (inner n (taller t (c .node)))) e);
       tree = back;
       ratio = turned n t (c .node) (c .coin) back;
     }

@@ -49,7 +49,11 @@ module _ {n : ℕ} {t : Tree} {i : ℕ} {x : Float} (g : Sliding n t i x) (low :
       let h = under-le (g .valid) (b .under) upper-node .1 in
       le-lt-trans _ _ _ (number (parent t j) upper-node) (number-sibling g) (number-parent g) h (sibling-low g)
 
-  -- and not i, since i is not under its sibling
+  -- so is its lower end
+  lower-low : T (lt (height t j) (height t (parent t i)))
+  lower-low = lt-trans _ _ _ (number j (b .node)) (g .number) (number-parent g) (b .lower) x-under
+
+  -- and the upper end is not i, since i is not under its sibling
   upper-apart : parent t j ≢ i
   upper-apart e =
       let u : Under n t (parent t (parent t j)) (sibling t i) = under-next (b .under) (λ f. sibling-kin g .apart (sym f ∙ e)) in
@@ -63,7 +67,7 @@ module _ {n : ℕ} {t : Tree} {i : ℕ} {x : Float} (g : Sliding n t i x) (low :
     under-i = g .under;
     node-j = b .node;
     not-i = λ e. lt-irrefl (height t (parent t i)) (subst (λ (m : ℕ). T (lt (height t (parent t m)) (height t (parent t i)))) e upper-low);
-    not-parent = λ e. differ t j (parent t i) (lt-trans _ _ _ (number j (b .node)) (g .number) (number-parent g) (b .lower) x-under) (sym e);
+    not-parent = λ e. differ t j (parent t i) lower-low (sym e);
     not-sibling = λ e. differ t j (sibling t i) (lt-trans _ _ _ (number j (b .node)) (g .number) (number-sibling g) (b .lower) s) (sym e);
   }
 
@@ -111,4 +115,4 @@ module _ {n : ℕ} {t : Tree} {i : ℕ} {x : Float} (g : Sliding n t i x) (low :
 
   -- the slide down onto a branch under the sibling is undone by one up onto the old sibling's
   pub down-returns : Returns n t i (regraft n t i j x) (Counts (length (branches n t x (sibling t i))) 1)
-  down-returns = returns-up g down-grafts valid (back-up (backIndex n t (regraft n t i j x) i)) (is-true _ x-under)
+  down-returns = returns-up g down-grafts valid (back-up (backIndex n t (regraft n t i j x) i)) (is-true _ x-under) lower-low

@@ -22,7 +22,7 @@ use Rattle.reversal.specs.FailedLaws.{failed, le-nlt}
 use Rattle.reversal.specs.FamilyLaws.{Sibling, sibling-is, sibling-only, sibling-below, differ}
 use Rattle.reversal.specs.DatedLaws.{height-at, set-valid}
 use Rattle.reversal.specs.BranchLaws.{stops}
-use Rattle.reversal.specs.SlideWayLaws.{Slides, up, level, slid-only, ratio-only, backIndex, Returns}
+use Rattle.reversal.specs.SlideWayLaws.{Slides, up, level, slid-only, ratio-only, backIndex, back-none, Returns}
 
 -- ---- around P
 
@@ -171,7 +171,11 @@ module _ {n : ℕ} {t : Tree} {i : ℕ} {x : Float} (g : Sliding n t i x) (a : T
     way = only-way (backIndex n t (only t i x) i);
     tree = slid-only only-valid P (only-way (backIndex n t (only t i x) i)) refl ∙ rw (set-parent t (parent t i) x i) (set-back t (parent t i) x);
     ratio = rw (ratio-only only-valid P (only-way (backIndex n t (only t i x) i)) refl) even;
+    unused = λ _. back-none only-valid t i (rw same (sibling-kin g .node)) (number-parent g) (rw (same, elsewhere (sibling t i) (sibling-apart g)) (sibling-low g));
   }
     where
+      same : sibling (only t i x) i ≡ sibling t i
+      same = set-sibling t (parent t i) x i
+
       P : parent (only t i x) i < n
       P = rw (set-parent t (parent t i) x i) (parent-node g)

@@ -1,14 +1,17 @@
--- SubtreeSlide is undone by SubtreeSlide: on each of its ways the returning choice gives the tree back (`slide-reverses`). Assumes nothing.
+-- SubtreeSlide is undone by SubtreeSlide: on each of its ways the returning choice gives the tree back (`slide-reverses`), with the index 0 where
+-- it picks no branch (`index-unused`). Assumes nothing.
 use mathlib.Core.Path.{_≡_, refl}
 use mathlib.Core.Logic.{_≢_, _⊎_, inl, inr}
-use mathlib.Core.Bool.{true, not}
+use mathlib.Core.Bool.{true, false, not}
 use Prim.Native.Nat.{ℕ}
 use lib.Dec.{T}
 use lib.Ieee.{Float, lt, le}
 use Rattle.real.specs.OrderLaws.{lt→le, le-trans, lt-trans, nlt→le}
 use Rattle.tree.specs.Tree.{Tree, parent, height, sibling}
-use Rattle.rules.specs.Rules.{rises, slid, slideRatio}
-use Rattle.rules.specs.Moves.{SubtreeSlide}
+use Rattle.tree.specs.Valid.{Valid, Strict}
+use Rattle.rules.specs.Rules.{rises, lowers, slid, slideRatio}
+use Rattle.rules.specs.Moves.{SubtreeSlide, Choice, Listed, declines, made, ratioOf}
+use Rattle.reversal.specs.Reversed.{returningIn}
 use Rattle.reversal.specs.Back.{Reverses}
 use Rattle.reversal.specs.FailedLaws.{passed, lt-false}
 use Rattle.reversal.specs.BranchLaws.{Climb, stops, goes, branches-sound}
@@ -66,9 +69,18 @@ module _ {n : ℕ} {t : Tree} {i : ℕ} {x : Float} (g : Sliding n t i x) (index
       let d = down-grafts g low q y .not-parent in
       rw (slid-onto (g .valid) P s d, ratio-down (g .valid) P s d r) (down-returns g low q y)
 
+module _ {n : ℕ} {t : Tree} (v : Valid n t) (st : Strict n t) (c : Choice SubtreeSlide) (l : Listed n SubtreeSlide t c)
+    (f : declines n SubtreeSlide t c ≡ false) where
+  admitted : Returns n t (c .node) (made n SubtreeSlide t c) (ratioOf n SubtreeSlide t c)
+  unfolding Returned
+  admitted =
+      let g : Sliding n t (c .node) (c .height) = record { valid = v; strict = st; node = l .node; under = l .under; number = l .number } in
+      returned g (c .index) (slides v l f)
+
+  -- the returning slide's index is 0 where it picks no branch
+  pub index-unused : lowers (made n SubtreeSlide t c) (c .node) (height t (parent t (c .node))) ≡ false → (returningIn n SubtreeSlide t c) .index ≡ 0
+  index-unused = admitted .unused
+
 -- an admitted slide is undone by the returning one
 pub slide-reverses : Reverses SubtreeSlide
-unfolding Returned
-slide-reverses n t v st c l f =
-    let g : Sliding n t (c .node) (c .height) = record { valid = v; strict = st; node = l .node; under = l .under; number = l .number } in
-    returns-back v (l .node) (l .under) (returned g (c .index) (slides v l f))
+slide-reverses n t v st c l f = returns-back v (l .node) (l .under) (admitted v st c l f)

@@ -134,4 +134,4 @@ module _ {n : ℕ} {t : Tree} {i : ℕ} {x : Float} (g : Sliding n t i x) (d : p
   -- the slide up onto another branch is undone by one down onto the old sibling's
   pub up-returns : Returns n t i (regraft n t i j x)
       (Counts 1 (length (branches n (regraft n t i j x) (height t (parent t i)) (sibling (regraft n t i j x) i))))
-  up-returns = returns-down g up-grafts valid back-down not-below
+  up-returns = returns-down g up-grafts valid back-down not-below parent-below

@@ -10,6 +10,7 @@ use borrow.Author.Tests.{eq-eqb, ne-eqb}
 use lib.Dec.{T, eqb}
 use lib.ListN.{length, getD}
 use lib.Ieee.{Float, lt}
+use lib.Ieee.Scale.{finite}
 use Rattle.answer.specs.declared.Ratio.{Ratio}
 use Rattle.answer.specs.declared.Ratio.the-variants.{Even, Counts}
 use Rattle.tree.specs.Tree.{Tree, parent, height, sibling}
@@ -21,7 +22,7 @@ use Rattle.rules.specs.Moves.{SubtreeSlide}
 use Rattle.reversal.specs.Reversed.{Turned}
 use Rattle.reversal.specs.Back.{Back}
 use Rattle.reversal.specs.FailedLaws.{or-first}
-use Rattle.reversal.specs.BranchLaws.{Climb, climb-is, climb-only}
+use Rattle.reversal.specs.BranchLaws.{Climb, climb-is, climb-only, branches-none}
 
 -- ---- the ways
 
@@ -103,7 +104,14 @@ module _ {n : ℕ} {t : Tree} (v : Valid n t) {i : ℕ} (P : parent t i < n) {x 
 abbrev pub backIndex : ℕ → Tree → Tree → ℕ → ℕ
 backIndex n t u i = place (branches n u (height t (parent t i)) (sibling u i)) (sibling t i)
 
--- u is valid with t's tips, and the slide from u to the old height goes one of the ways, gives t back and turns r over
+-- where the new sibling is below the old height no branch is listed, and the index is 0
+pub back-none : {n : ℕ} {u : Tree} → Valid n u → (t : Tree) (i : ℕ) → sibling u i < n → T (finite (height t (parent t i)))
+    → T (lt (height u (sibling u i)) (height t (parent t i))) → backIndex n t u i ≡ 0
+unfolding place
+back-none v t i S X h = rw (branches-none v (height t (parent t i)) S X h)
+
+-- u is valid with t's tips, and the slide from u to the old height goes one of the ways, gives t back and turns r over; its index is 0 where it
+-- picks no branch
 pub record Returns (n : ℕ) (t : Tree) (i : ℕ) (u : Tree) (r : Ratio) : Type 0 where
   pub valid : Valid n u
   pub tips : (k : ℕ) → k + k ≤ n → height u k ≡ height t k
@@ -112,6 +120,7 @@ pub record Returns (n : ℕ) (t : Tree) (i : ℕ) (u : Tree) (r : Ratio) : Type 
   pub way : Slides n u i (height t (parent t i)) (backIndex n t u i) to
   pub tree : slid n u i (height t (parent t i)) (backIndex n t u i) ≡ t
   pub ratio : Turned r (slideRatio n u i (height t (parent t i)) (backIndex n t u i))
+  pub unused : lowers u i (height t (parent t i)) ≡ false → backIndex n t u i ≡ 0
 
 -- that is what demand 3 asks, where u and r are what the slide makes of t
 pub returns-back : {n : ℕ} {t : Tree} → Valid n t → {i : ℕ} {x : Float} {index : ℕ} → i < n → i ≢ t .root

@@ -23,6 +23,10 @@ use Rattle.edits.specs.Slots.{swap, rotate, setHeight}
 abbrev pub internals : ℕ → ℕ
 internals n = n - tipsOf n
 
+-- "one internal node"
+abbrev pub oneInternal : ℕ → Bool
+oneInternal n = eqb (internals n) 1
+
 -- the height of the taller child
 abbrev pub floor : Tree → ℕ → Float
 floor t k = maxOf (height t (first t k)) (height t (second t k))
@@ -32,7 +36,8 @@ abbrev pub within : Float → Float → Float → Bool
 within lower x upper = le lower x && le x upper
 
 -- i's parent P "goes onto another branch", the one over j: "the sibling first takes P's side under P's old parent, or becomes root; then P
--- takes the side of the branch's lower node, or becomes root, and that node the sibling's side in P". "The chosen height goes" to P
+-- takes the side of the branch's lower node, or becomes root, and that node the sibling's side in P". Nothing else is written but the height, so
+-- that "The moved node stays on its own side, and no other pair changes"
 unfoldable pub regraft : ℕ → Tree → ℕ → ℕ → Float → Tree
 regraft n t i j x = setHeight (rotate n t (sibling t i) (parent t i) j) (parent t i) x
 
@@ -47,7 +52,7 @@ pub record NodeHeightListed (n : ℕ) (t : Tree) (k : ℕ) (x : Float) : Type 0 
 
 -- "Declined if there is one internal node"
 abbrev pub nodeHeightDeclines : ℕ → Bool
-nodeHeightDeclines n = eqb (internals n) 1
+nodeHeightDeclines n = oneInternal n
 
 -- "The chosen height goes to the node"; even
 abbrev pub heightMoved : Tree → ℕ → Float → Tree
@@ -98,7 +103,7 @@ pub record SlideListed (n : ℕ) (t : Tree) (i : ℕ) (x : Float) (index : ℕ) 
   pub number : T (finite x)
   pub picked : T (lowers t i x) → slideDeclines n t i x ≡ false → index < length (branches n t x (sibling t i))
 
--- the branch onto which P goes: its own, named by P itself, where "only the height changes"
+-- the branch onto which P goes: its own, named by P itself, where "only the height changes"; "The chosen height goes" to P in any case
 unfoldable pub slideTo : ℕ → Tree → ℕ → Float → ℕ → ℕ
 slideTo n t i x index =
     cond (rises t i x) (climb n t x (parent t i)) (cond (lowers t i x) (getD (branches n t x (sibling t i)) index 0) (parent t i))
@@ -141,7 +146,7 @@ pub record NarrowListed (n : ℕ) (t : Tree) (g : ℕ) : Type 0 where
 
 -- "Declined if one internal node exists or the taller child is a tip"
 unfoldable pub narrowDeclines : ℕ → Tree → ℕ → Bool
-narrowDeclines n t g = eqb (internals n) 1 || not (inner n (taller t g))
+narrowDeclines n t g = oneInternal n || not (inner n (taller t g))
 
 -- "That child and the uncle change places"
 unfoldable pub narrowed : ℕ → Tree → ℕ → Bool → Tree
@@ -207,7 +212,7 @@ wilsonDeclines t i j =
     let q = parent t j in
     eqb j (t .root) || eqb p (t .root) || eqb q p || eqb j p || eqb q i || eq (newRange t i j) Real.zero || eq (oldRange t i) Real.zero
 
--- "in WilsonBalding p goes onto j's branch"
+-- "in WilsonBalding p goes onto j's branch", and has the chosen height there
 abbrev pub wilsonMoved : ℕ → Tree → ℕ → ℕ → Float → Tree
 wilsonMoved n t i j x = regraft n t i j x
 
