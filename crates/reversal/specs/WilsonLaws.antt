@@ -1,13 +1,14 @@
 -- WilsonBalding is taken back by the old sibling and the old height (`wilson-reverses`). In order: what is known where it does not decline
 -- (`Free`); the tree made is valid, and the two ranges have changed places; and the choice that takes it back. Assumes nothing.
 use mathlib.Core.Path.{_≡_, sym, ap, _∙_}
-use mathlib.Core.Logic.{_≢_, inr}
-use mathlib.Core.Bool.{false, _||_}
+use mathlib.Core.Logic.{_≢_}
+use mathlib.Core.Bool.{false, _||_, or-true}
 use Prim.Native.Nat.{ℕ, _+_, _≤_, _<_}
 use native.Mathlib.Omega.{arith}
 use borrow.Author.Tests.{eqb-false, ne-eqb}
 use lib.Dec.{T, eqb}
 use lib.Ieee.{Float, lt, le, eq}
+use lib.Ieee.Bits.{is-true}
 use lib.Ieee.Scale.{finite}
 use Rattle.real.specs.Real as Real
 use Rattle.real.specs.Real.{maxOf}
@@ -170,7 +171,7 @@ module _ {n : ℕ} {t : Tree} (v : Valid n t) (st : Strict n t) {i j : ℕ} {x :
     node-j = kin .node;
     under-i = λ e. l .under-i (e ∙ root-same);
     apart = kin .apart;
-    over = inr (rw (kept-grand, kept-node) below-grand);
+    host = rw (kept-grand, kept-node, is-true (lt (height t i) (height t grand)) below-grand, or-true (eqb (sibling t i) (after .root))) tt;
     interval = λ _. rw (kept-node, kept-sibling, kept-grand)
         (within-is (maxOf (height t i) (height t (sibling t i))) (height t (parent t i)) (height t grand)
         (max-le (height t i) (height t (sibling t i)) (height t (parent t i)) (v .dated .ordered i (l .node-i) (l .under-i))

@@ -1,7 +1,7 @@
 -- The rules of the moves, along the lines of document 01's "What each move chooses". For each move: what its line lists, when it declines,
 -- the tree that a choice makes, and the ratio. t is a tree of n nodes. Definitions only. Assumes nothing.
 use mathlib.Core.Path.{_≡_}
-use mathlib.Core.Logic.{_≢_, _⊎_}
+use mathlib.Core.Logic.{_≢_}
 use mathlib.Core.Bool.{Bool, false, not, _&&_, _||_, cond}
 use mathlib.Core.List.{List, [], _∷_, _++_}
 use Prim.Native.Nat.{ℕ, zero, suc, _+_, _-_, _<_}
@@ -184,6 +184,10 @@ widened n t i j = swap n t i j
 
 -- ---- WilsonBalding
 
+-- "that is the root or has a parent q taller than i"
+abbrev pub hosts : Tree → ℕ → ℕ → Bool
+hosts t i j = eqb j (t .root) || lt (height t i) (height t (parent t j))
+
 -- "non-root i with parent p; j other than i that is the root or has a parent q taller than i", and a "Height from max(h(i), h(j)) to h(q)",
 -- where there is a q
 pub record WilsonListed (n : ℕ) (t : Tree) (i j : ℕ) (x : Float) : Type 0 where
@@ -191,7 +195,7 @@ pub record WilsonListed (n : ℕ) (t : Tree) (i j : ℕ) (x : Float) : Type 0 wh
   pub node-j : j < n
   pub under-i : i ≢ t .root
   pub apart : j ≢ i
-  pub over : (j ≡ t .root) ⊎ T (lt (height t i) (height t (parent t j)))
+  pub host : T (hosts t i j)
   pub interval : j ≢ t .root → T (within (maxOf (height t i) (height t j)) x (height t (parent t j)))
 
 -- from max(h(i), h(j)) to h(q)

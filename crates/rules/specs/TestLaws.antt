@@ -1,20 +1,19 @@
 -- The tests of what the lines list agree with the lists: `Agrees`, how tests that agree are put together, and then each move's
 -- (`lists-agree` and `admits-agree` for the five reversible moves, `tip-age-agrees`). Assumes nothing.
 use mathlib.Core.Path.{_≡_, refl, subst}
-use mathlib.Core.Logic.{_≢_, _⊎_, inl, inr}
+use mathlib.Core.Logic.{_≢_}
 use mathlib.Core.Bool.{Bool, true, false, not, _&&_, _||_}
 use Prim.Native.Nat.{ℕ, _+_, _<_}
-use native.Mathlib.Decide.{ℕ-discrete}
-use borrow.Author.Tests.{eq-eqb, ne-eqb}
-use lib.Dec.{T, ltb, eqb, lt→ltb, ltb→lt, eqb→eq, T-not}
+use borrow.Author.Tests.{eqb-false, eq-eqb, ne-eqb}
+use lib.Dec.{T, ltb, eqb, lt→ltb, ltb→lt, T-not}
 use lib.ListN.{length}
-use lib.Ieee.{Float, lt}
+use lib.Ieee.{Float}
 use lib.Ieee.Scale.{finite}
 use Rattle.real.specs.Real.{maxOf}
 use Rattle.tree.specs.Tree.{Tree, tipsOf, parent, height, sibling}
-use Rattle.rules.specs.Rules.{floor, within, branches, lowers, slideDeclines, grand, ceiling, NodeHeightListed, SlideListed, NarrowListed, WideListed, WilsonListed, TipAgeListed}
+use Rattle.rules.specs.Rules.{floor, within, branches, lowers, slideDeclines, grand, hosts, ceiling, NodeHeightListed, SlideListed, NarrowListed, WideListed, WilsonListed, TipAgeListed}
 use Rattle.rules.specs.Moves.{Reversible, NodeHeight, SubtreeSlide, NarrowExchange, WideExchange, WilsonBalding, Choice, Listed, declines}
-use Rattle.rules.specs.Tests.{nonRoot, nodeHeightLists, slideLists, narrowLists, wideLists, onBranch, wilsonLists, tipAgeLists, lists, admits}
+use Rattle.rules.specs.Tests.{nonRoot, nodeHeightLists, slideLists, narrowLists, wideLists, wilsonLists, tipAgeLists, lists, admits}
 
 -- the test holds exactly where A does
 pub record Agrees (A : Type 0) (test : Bool) : Type 0 where
@@ -38,17 +37,6 @@ both {A} {B} {a} {b} x y = go a x
     go true x = record { passed = λ h. (x .passed tt, y .passed h); passes = λ h. y .passes (h .1) }
     go false x = record { passed = λ h. absurd h; passes = λ h. x .passes (h .0) }
 
-either : {A B : Type 0} {a b : Bool} → Agrees A a → Agrees B b → Agrees (A ⊎ B) (a || b)
-either {A} {B} {a} {b} x y = go a x
-  where
-    pick : (A → T false) → A ⊎ B → T b
-    pick f (inl h) = absurd (f h)
-    pick f (inr h) = y .passes h
-
-    go : (a : Bool) → Agrees A a → Agrees (A ⊎ B) (a || b)
-    go true x = record { passed = λ h. inl (x .passed tt); passes = λ h. tt }
-    go false x = record { passed = λ h. inr (y .passed h); passes = pick (x .passes) }
-
 -- what is asked only where the first test fails
 unless : {A : Type 0} (b : Bool) {a : Bool} → Agrees A a → Agrees (b ≡ false → A) (b || a)
 unless {A} true {a} x = record { passed = λ h e. absurd (subst T e tt); passes = λ h. tt }
@@ -67,11 +55,12 @@ fails false = record { passed = λ h. refl; passes = λ e. tt }
 under : (a b : ℕ) → Agrees (a < b) (ltb a b)
 under a b = record { passed = ltb→lt a b; passes = lt→ltb a b }
 
-same : (a b : ℕ) → Agrees (a ≡ b) (eqb a b)
-same a b = record { passed = eqb→eq a b; passes = λ e. (rw (eq-eqb a b e) tt) }
-
 unlike : (a b : ℕ) → Agrees (a ≢ b) (not (eqb a b))
 unlike a b = record { passed = λ h e. T-not (eqb a b) h (rw (eq-eqb a b e) tt); passes = λ d. (rw (ne-eqb a b d) tt) }
+
+-- what is asked only where two numbers differ
+elsewhere : {A : Type 0} (a b : ℕ) {c : Bool} → Agrees A c → Agrees (a ≢ b → A) (eqb a b || c)
+elsewhere a b x = meaning (λ f d. f (ne-eqb a b d)) (λ f e. f (eqb-false a b e)) (unless (eqb a b) x)
 
 -- ---- each move's
 
@@ -106,45 +95,13 @@ module _ (n : ℕ) (t : Tree) where
 
   wilson-agrees : (i j : ℕ) (x : Float) → Agrees (WilsonListed n t i j x) (wilsonLists n t i j x)
   unfolding wilsonLists
-  wilson-agrees i j x = meaning listed parts (both (non-root i) (both (under j n) (both (unlike j i) (either (same j (t .root)) branch))))
+  wilson-agrees i j x = meaning
+      (λ h. record { node-i = h .0 .0; under-i = h .0 .1; node-j = h .1 .0; apart = h .1 .1 .0; host = h .1 .1 .1 .0; interval = h .1 .1 .1 .1 })
+      (λ l. ((l .node-i, l .under-i), (l .node-j, (l .apart, (l .host, l .interval)))))
+      (both (non-root i) (both (under j n) (both (unlike j i) (both (itself (hosts t i j)) (elsewhere j (t .root) (itself upward))))))
     where
-      Branch : Type 0
-      Branch = T (lt (height t i) (height t (parent t j))) × T (within (maxOf (height t i) (height t j)) x (height t (parent t j)))
-
-      branch : Agrees Branch (onBranch t i j x)
-      branch = both (itself (lt (height t i) (height t (parent t j)))) (itself (within (maxOf (height t i) (height t j)) x (height t (parent t j))))
-
-      Parts : Type 0
-      Parts = ((i < n) × (i ≢ t .root)) × ((j < n) × ((j ≢ i) × ((j ≡ t .root) ⊎ Branch)))
-
-      listed : Parts → WilsonListed n t i j x
-      listed h = go (h .1 .1 .1)
-        where
-          go : (j ≡ t .root) ⊎ Branch → WilsonListed n t i j x
-          go (inl e) = record {
-            node-i = h .0 .0;
-            under-i = h .0 .1;
-            node-j = h .1 .0;
-            apart = h .1 .1 .0;
-            over = inl e;
-            interval = λ d. absurd (d e);
-          }
-          go (inr b) = record {
-            node-i = h .0 .0;
-            under-i = h .0 .1;
-            node-j = h .1 .0;
-            apart = h .1 .1 .0;
-            over = inr (b .0);
-            interval = λ d. b .1;
-          }
-
-      parts : WilsonListed n t i j x → Parts
-      parts l = ((l .node-i, l .under-i), (l .node-j, (l .apart, branch-of (ℕ-discrete j (t .root)) (l .over))))
-        where
-          branch-of : Dec (j ≡ t .root) → (j ≡ t .root) ⊎ T (lt (height t i) (height t (parent t j))) → (j ≡ t .root) ⊎ Branch
-          branch-of (yes e) o = inl e
-          branch-of (no d) (inl e) = inl e
-          branch-of (no d) (inr h) = inr (h, l .interval d)
+      upward : Bool
+      upward = within (maxOf (height t i) (height t j)) x (height t (parent t j))
 
 -- what a reversible move lists is what its test passes
 pub lists-agree : (n : ℕ) (m : Reversible) (t : Tree) (c : Choice m) → Agrees (Listed n m t c) (lists n m t c)

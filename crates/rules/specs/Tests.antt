@@ -3,11 +3,11 @@ use mathlib.Core.Bool.{Bool, not, _&&_, _||_}
 use Prim.Native.Nat.{ℕ}
 use lib.Dec.{ltb, eqb}
 use lib.ListN.{length}
-use lib.Ieee.{Float, lt}
+use lib.Ieee.{Float}
 use lib.Ieee.Scale.{finite}
 use Rattle.real.specs.Real.{maxOf}
 use Rattle.tree.specs.Tree.{Tree, tipsOf, inner, parent, height, sibling}
-use Rattle.rules.specs.Rules.{floor, within, branches, lowers, slideDeclines, grand, ceiling}
+use Rattle.rules.specs.Rules.{floor, within, branches, lowers, slideDeclines, grand, hosts, ceiling}
 use Rattle.rules.specs.Moves.{Reversible, NodeHeight, SubtreeSlide, NarrowExchange, WideExchange, WilsonBalding, Choice, declines}
 
 -- k is a node and not the root
@@ -27,12 +27,10 @@ narrowLists n t g = ltb g n && grand n t g
 unfoldable pub wideLists : ℕ → Tree → ℕ → ℕ → Bool
 wideLists n t i j = nonRoot n t i && (nonRoot n t j && not (eqb i j))
 
--- a branch whose upper end is above i, and a height in its interval
-abbrev pub onBranch : Tree → ℕ → ℕ → Float → Bool
-onBranch t i j x = lt (height t i) (height t (parent t j)) && within (maxOf (height t i) (height t j)) x (height t (parent t j))
-
 unfoldable pub wilsonLists : ℕ → Tree → ℕ → ℕ → Float → Bool
-wilsonLists n t i j x = nonRoot n t i && (ltb j n && (not (eqb j i) && (eqb j (t .root) || onBranch t i j x)))
+wilsonLists n t i j x =
+    let asked = eqb j (t .root) || within (maxOf (height t i) (height t j)) x (height t (parent t j)) in
+    nonRoot n t i && (ltb j n && (not (eqb j i) && (hosts t i j && asked)))
 
 unfoldable pub tipAgeLists : ℕ → Tree → ℕ → Float → Float → Float → Bool
 tipAgeLists n t k least greatest x = ltb k (tipsOf n) && within least x (ceiling t k greatest)
