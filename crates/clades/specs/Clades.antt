@@ -80,7 +80,7 @@ abbrev pub agePrinted : Printed → Age
 agePrinted (Printings.Thousandths count) = Ages.Thousandths count
 agePrinted Printings.Outside = Ages.Refused (Parameter 0)
 
--- "an empty set … gives refusal 5"
+-- "an empty set" is refused too
 unfoldable pub cladeAge : Tree → List Bool → Age
 cladeAge t members = cond (some (marked members) (length members)) (agePrinted (printedOf (height t (cladeNode t members)))) (Ages.Refused (Parameter 0))
 

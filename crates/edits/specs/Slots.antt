@@ -48,7 +48,7 @@ swap n t a b = put n (put n t (slotOf n t a) b) (slotOf n t b) a
 unfoldable pub rotate : ℕ → Tree → ℕ → ℕ → ℕ → Tree
 rotate n t a b c = put n (put n (put n t (slotOf n t b) a) (slotOf n t c) b) (slotOf n t a) c
 
--- "the chosen height goes to the node"
+-- "The chosen height goes to the node"
 unfoldable pub setHeight : Tree → ℕ → Float → Tree
 setHeight t k x = record { pairs = t .pairs; parents = t .parents; heights = set (t .heights) k x; root = t .root }
 

@@ -12,12 +12,12 @@ use Rattle.random.specs.declared.DrawnBelow.{DrawnBelow}
 abbrev pub turnedBack : Random → Refusal → DrawnBelow
 turnedBack g why = record { answer = Answers.Refused why; random = g }
 
--- "6, allowance: the Rust would make more draws than allowed"; else the number and the draws made
+-- refusal 6 where "the Rust would make more draws than allowed"; else the number and the draws made
 abbrev pub ended : Random → ℕ → Drawn ℕ → DrawnBelow
 ended g allowance spent = turnedBack g (Allowance allowance)
 ended g allowance (got k s) = record { answer = Answers.Drawn k (allowance - s .left); random = s .random }
 
--- "5, detail: a parameter outside its limits", before any draw
+-- refusal 5 for "a parameter outside its limits", before any draw
 unfoldable pub belowCall : Random → (n allowance : ℕ) → DrawnBelow
 belowCall g n allowance =
     cond (countable n && allowed allowance) (ended g allowance (pick (below n) (supplyOf g allowance))) (turnedBack g (Parameter 0))

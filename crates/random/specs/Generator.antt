@@ -25,7 +25,7 @@ fromState s = record { state = s }
 unfoldable pub seeded : ℕ → Random
 seeded seed = fromState (outputs 4 seed)
 
--- "'Draw' means one 64-bit output of the generator": the next one, and the generator after it
+-- a draw is "one 64-bit output of the generator": the next one, and the generator after it
 unfoldable pub wordOf : Random → ℕ
 wordOf g = output (stateOf g)
 

@@ -138,7 +138,7 @@ of-le-min x y z X Y Z h =
 
 -- ---- a single float
 
--- where a number is not below zero, "below infinity" is "finite"
+-- where a number is not below zero, to be below infinity is to be finite
 pub finite-test : (x : Float) → lt x zero ≡ false → lt x infinity ≡ finite x
 unfolding lt ofBits
 finite-test nan h = refl

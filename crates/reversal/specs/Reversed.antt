@@ -5,8 +5,7 @@ use Prim.Native.Nat.{ℕ, _<_}
 use lib.Ieee.{Float}
 use Rattle.answer.specs.declared.Ratio.{Ratio}
 use Rattle.answer.specs.declared.Ratio.the-variants.{Even, Counts, Lengths}
-use Rattle.tree.specs.Tree.{Tree, nodesOf, tipsOf, parent, height, sibling}
-use Rattle.tree.specs.ListLaws.{place}
+use Rattle.tree.specs.Tree.{Tree, nodesOf, tipsOf, parent, height, sibling, place}
 use Rattle.tree.specs.New.{Accepted}
 use Rattle.rules.specs.Rules.{branches}
 use Rattle.rules.specs.Moves.{Reversible, NodeHeight, SubtreeSlide, NarrowExchange, WideExchange, WilsonBalding, Choice, made, Makes}

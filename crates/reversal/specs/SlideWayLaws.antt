@@ -13,9 +13,8 @@ use lib.Ieee.{Float, lt}
 use lib.Ieee.Scale.{finite}
 use Rattle.answer.specs.declared.Ratio.{Ratio}
 use Rattle.answer.specs.declared.Ratio.the-variants.{Even, Counts}
-use Rattle.tree.specs.Tree.{Tree, parent, height, sibling}
+use Rattle.tree.specs.Tree.{Tree, parent, height, sibling, place}
 use Rattle.tree.specs.Valid.{Valid}
-use Rattle.tree.specs.ListLaws.{place}
 use Rattle.edits.specs.Slots.{setHeight}
 use Rattle.rules.specs.Rules.{regraft, rises, lowers, branches, slideDeclines, SlideListed, slideTo, slid, slideRatio}
 use Rattle.rules.specs.Moves.{SubtreeSlide}

@@ -15,7 +15,7 @@ use Rattle.edits.specs.Slots.{slotOf, owner, put, swap, rotate, setHeight}
 use Rattle.rules.specs.Rules as Rules
 use Rattle.rules.specs.Moves.{NodeHeight, SubtreeSlide, NarrowExchange, WideExchange, WilsonBalding}
 use Rattle.rules.specs.Tests.{nodeHeightLists, slideLists, narrowLists, wideLists, wilsonLists, tipAgeLists}
-use Rattle.rules.specs.Samples.{0·0, −0·0, 0·5, 1·0, 1·5, 2·0, 2·5, 3·0, 5·0, five, F-at, F, slid-at, grafted-at, paired, unpaired, comb, raised, example, example-root, height-of, slide, narrow, wide, wilson, Row, Declined, Unlisted, row, declined-row, unlisted-row}
+use Rattle.rules.specs.Samples.{0·0, −0·0, 0·5, 1·0, 1·5, 2·0, 2·5, 3·0, 5·0, five, F-at, F, slid-at, grafted-at, paired, unpaired, comb, raised, crossed, outer, sunk, example, example-root, height-of, slide, narrow, wide, wilson, Row, Declined, Unlisted, row, declined-row, unlisted-row}
 
 -- ---- what is made, and what is declined
 
@@ -34,17 +34,26 @@ pub record OwnRows : Type 0 where
   -- both ends of the interval, and different ranges
   pub wilson-high : Row WilsonBalding (F-at 0·0 0·0 0·5 1·0 2·0) (wilson 0 2 2·0) (grafted-at 0·0 0·5 2·0) (Lengths 1·5 2·0)
   pub wilson-low : Row WilsonBalding (F-at 0·0 0·0 0·5 1·0 2·0) (wilson 0 2 0·5) (grafted-at 0·0 0·5 0·5) (Lengths 1·5 2·0)
+  -- different upper ends of the ranges
+  pub wilson-ends : Row WilsonBalding comb (wilson 0 3 2·5) crossed (Lengths 3·0 2·0)
+  -- an internal i, above j and the sibling
+  pub wilson-internal : Row WilsonBalding comb (wilson 4 3 2·0) unpaired (Lengths 2·0 2·0)
+  -- an internal i
+  pub wide-internal : Row WideExchange paired (wide 4 2) unpaired Even
   -- a branch whose lower end is at the height does not count
   pub slide-level : Row SubtreeSlide (slid-at 1·0 0·0) (slide 0 1·0 0) (grafted-at 1·0 0·0 1·0) (Counts 1 1)
   -- the second branch, left first
   pub slide-second : Row SubtreeSlide (slid-at 0·0 0·0) (slide 0 1·0 1) (grafted-at 0·0 0·0 1·0) (Counts 2 1)
+  -- branches at different depths, left first, one of them with its upper end at the height
+  pub slide-deep : Row SubtreeSlide outer (slide 0 1·0 0) sunk (Counts 3 1)
   -- onto a branch below the root's
   pub slide-middle : Row SubtreeSlide comb (slide 0 2·5 0) raised (Counts 1 2)
   -- branches that were level with the old height are not listed for the way back
   pub slide-none-back : Row SubtreeSlide (F-at 0·0 1·0 1·0 1·0 2·0) (slide 0 3·0 0) (slid-at 1·0 1·0) (Counts 1 0)
-  -- up to the parent's height, and down to the sibling's: only the height changes
+  -- up to the parent's height, and down to the sibling's, tip or not: only the height changes
   pub slide-to-parent : Row SubtreeSlide F (slide 0 2·0 0) (F-at 0·0 0·0 0·0 2·0 2·0) Even
   pub slide-to-sibling : Row SubtreeSlide F (slide 0 0·0 0) (F-at 0·0 0·0 0·0 0·0 2·0) Even
+  pub slide-to-inner : Row SubtreeSlide (slid-at 0·0 0·0) (slide 0 2·0 0) (five 0 4 1 2 (3 ∷ 4 ∷ 4 ∷ noNode ∷ 3 ∷ []) (0·0 ∷ 0·0 ∷ 0·0 ∷ 2·0 ∷ 2·0 ∷ []) 3) Even
   -- a node above the new height, and no branch under the sibling
   pub slide-under-node : Declined SubtreeSlide (F-at 0·5 0·0 0·0 1·0 2·0) (slide 0 0·0 0)
   pub slide-no-branch : Declined SubtreeSlide (slid-at 1·0 1·0) (slide 0 1·0 0)
@@ -95,7 +104,8 @@ pub record ScaleRows : Type 0 where
   pub root-ratio : Rules.rootScaleRatio example ≡ Power example (negsuc 0)
   -- to a child's height, and under it
   pub root-level : Rules.rootScaleDeclines F 0·5 ≡ false
-  pub root-under : Rules.rootScaleDeclines (F-at 0·0 0·0 0·0 1·5 2·0) 0·5 ≡ true
+  pub root-under-first : Rules.rootScaleDeclines (F-at 0·0 0·0 0·0 1·5 2·0) 0·5 ≡ true
+  pub root-under-second : Rules.rootScaleDeclines (F-at 0·0 0·0 1·5 1·0 2·0) 0·5 ≡ true
   -- the internal heights and no others; "internal nodes − 2" of five, of three and of seven nodes
   pub tree-scaled : Rules.treeScaled 5 (F-at 0·0 0·0 0·5 1·0 2·0) 2·5 ≡ F-at 0·0 0·0 0·5 2·5 5·0
   pub tree-ratio-five : Rules.treeScaleRatio 5 0·5 ≡ Power 0·5 (pos 0)
@@ -110,9 +120,11 @@ pub record ScaleRows : Type 0 where
   pub tip-under-least : tipAgeLists 5 F 2 0·5 3·0 0·0 ≡ false
   pub tip-not-inner : tipAgeLists 5 F 3 0·0 3·0 1·0 ≡ false
   pub tip-moved : Rules.tipMoved F 2 1·5 ≡ F-at 0·0 0·0 1·5 1·0 2·0
-  -- an interval, and one without a length
+  pub tip-even : Rules.tipAgeRatio ≡ Even
+  -- an interval, one without a length, and one that would end at the parent before it begins
   pub tip-admitted : Rules.tipAgeDeclines F 2 0·5 1·5 ≡ false
-  pub tip-declined : Rules.tipAgeDeclines F 2 1·5 1·5 ≡ true
+  pub tip-fixed : Rules.tipAgeDeclines F 2 1·5 1·5 ≡ true
+  pub tip-over : Rules.tipAgeDeclines F 2 2·5 3·0 ≡ true
 
 -- ---- shown
 
@@ -130,14 +142,19 @@ own-rows = record {
   narrow-one-internal = λ t g. refl;
   narrow-second = row refl tt refl refl refl;
   narrow-counts = row refl tt refl refl refl;
+  wilson-ends = row refl tt refl refl refl;
+  wilson-internal = row refl tt refl refl refl;
+  wide-internal = row refl tt refl refl refl;
   wilson-high = row refl tt refl refl refl;
   wilson-low = row refl tt refl refl refl;
   slide-level = row refl tt refl refl refl;
   slide-second = row refl tt refl refl refl;
+  slide-deep = row refl tt refl refl refl;
   slide-middle = row refl tt refl refl refl;
   slide-none-back = row refl tt refl refl refl;
   slide-to-parent = row refl tt refl refl refl;
   slide-to-sibling = row refl tt refl refl refl;
+  slide-to-inner = row refl tt refl refl refl;
   slide-under-node = declined-row refl tt refl;
   slide-no-branch = declined-row refl tt refl;
   wide-level-j = declined-row refl tt refl;
@@ -180,7 +197,8 @@ scale-rows = record {
   root-admitted = refl;
   root-ratio = refl;
   root-level = refl;
-  root-under = refl;
+  root-under-first = refl;
+  root-under-second = refl;
   tree-scaled = refl;
   tree-ratio-five = refl;
   tree-ratio-three = refl;
@@ -193,6 +211,8 @@ scale-rows = record {
   tip-under-least = refl;
   tip-not-inner = refl;
   tip-moved = refl;
+  tip-even = refl;
   tip-admitted = refl;
-  tip-declined = refl;
+  tip-fixed = refl;
+  tip-over = refl;
 }

@@ -54,7 +54,7 @@ pub record NodeHeightListed (n : ℕ) (t : Tree) (k : ℕ) (x : Float) : Type 0 
 abbrev pub nodeHeightDeclines : ℕ → Bool
 nodeHeightDeclines n = oneInternal n
 
--- "The chosen height goes to the node"; even
+-- "The chosen height goes to the node"
 abbrev pub heightMoved : Tree → ℕ → Float → Tree
 heightMoved t k x = setHeight t k x
 
@@ -65,7 +65,7 @@ abbrev pub rises : Tree → ℕ → Float → Bool
 rises t i x = lt (height t (parent t i)) x
 
 -- "the ancestral branch whose lower end is below that height and whose upper end is not", from k's own upwards; the root's has no upper end.
--- A branch is named by its lower node, and a tree is no deeper than depth
+-- A branch is named by its lower node. depth is how far to look at most: n is enough, a tree of n nodes being less than n deep
 unfoldable pub climb : ℕ → Tree → Float → ℕ → ℕ
 climb zero t x k = k
 climb (suc depth) t x k = cond (not (eqb k (t .root)) && lt (height t (parent t k)) x) (climb depth t x (parent t k)) k
@@ -74,7 +74,8 @@ climb (suc depth) t x k = cond (not (eqb k (t .root)) && lt (height t (parent t 
 abbrev pub spanning : Tree → Float → ℕ → ℕ → List ℕ
 spanning t x k c = cond (lt (height t c) x && not (lt (height t k) x)) (c ∷ []) []
 
--- the branches under k that span x, "in left-first order"; `crossing` "counts below a node by calling on both children"
+-- the branches under k that span x, "in left-first order", no further down than depth; `crossing` "counts below a node by calling on both
+-- children"
 unfoldable pub crossing : ℕ → ℕ → Tree → Float → ℕ → List ℕ
 crossing zero n t x k = []
 crossing (suc depth) n t x k =
@@ -82,7 +83,7 @@ crossing (suc depth) n t x k =
     let b = second t k in
     cond (inner n k) ((spanning t x k a ++ crossing depth n t x a) ++ (spanning t x k b ++ crossing depth n t x b)) []
 
--- a tree of n nodes is less than n deep
+-- all of them
 abbrev pub branches : ℕ → Tree → Float → ℕ → List ℕ
 branches n t x k = crossing n n t x k
 
@@ -103,11 +104,13 @@ pub record SlideListed (n : ℕ) (t : Tree) (i : ℕ) (x : Float) (index : ℕ) 
   pub number : T (finite x)
   pub picked : T (lowers t i x) → slideDeclines n t i x ≡ false → index < length (branches n t x (sibling t i))
 
--- the branch onto which P goes: its own, named by P itself, where "only the height changes"; "The chosen height goes" to P in any case
+-- the branch onto which P goes: its own, named by P itself, where "only the height changes". An index that is listed is below the list's length
+-- wherever it is read
 unfoldable pub slideTo : ℕ → Tree → ℕ → Float → ℕ → ℕ
 slideTo n t i x index =
     cond (rises t i x) (climb n t x (parent t i)) (cond (lowers t i x) (getD (branches n t x (sibling t i)) index 0) (parent t i))
 
+-- "The chosen height goes to the node, to P or to p"
 unfoldable pub slid : ℕ → Tree → ℕ → Float → ℕ → Tree
 slid n t i x index =
     let to = slideTo n t i x index in
@@ -140,6 +143,7 @@ uncle t g = cond (lt (height t (first t g)) (height t (second t g))) (first t g)
 abbrev pub sideOf : Tree → Bool → ℕ → ℕ
 sideOf t coin k = cond coin (first t k) (second t k)
 
+-- "an internal node with an internal child"; "one side of that" is either
 pub record NarrowListed (n : ℕ) (t : Tree) (g : ℕ) : Type 0 where
   pub node : g < n
   pub grandparent : T (grand n t g)
@@ -178,7 +182,7 @@ wideDeclines t i j =
     let q = parent t j in
     eqb p q || eqb i q || eqb j p || le (height t p) (height t j) || le (height t q) (height t i)
 
--- "i and j change places, each onto the other's side"; even
+-- "i and j change places, each onto the other's side"
 abbrev pub widened : ℕ → Tree → ℕ → ℕ → Tree
 widened n t i j = swap n t i j
 
@@ -202,10 +206,11 @@ pub record WilsonListed (n : ℕ) (t : Tree) (i j : ℕ) (x : Float) : Type 0 wh
 abbrev pub range : Tree → ℕ → ℕ → ℕ → Float
 range t i j q = sub binary64 (height t q) (maxOf (height t i) (height t j))
 
--- "the new range; the old is from max(h(i), h(sibling)) to p's parent"
+-- "to h(q), the new range"
 unfoldable pub newRange : Tree → ℕ → ℕ → Float
 newRange t i j = range t i j (parent t j)
 
+-- "the old is from max(h(i), h(sibling)) to p's parent"
 unfoldable pub oldRange : Tree → ℕ → Float
 oldRange t i = range t i (sibling t i) (parent t (parent t i))
 
@@ -234,6 +239,7 @@ rootHeight t f = mul binary64 (height t (t .root)) f
 unfoldable pub rootScaleDeclines : Tree → Float → Bool
 rootScaleDeclines t f = lt (rootHeight t f) (floor t (t .root))
 
+-- the root has it
 abbrev pub rootScaled : Tree → Float → Tree
 rootScaled t f = setHeight t (t .root) (rootHeight t f)
 
@@ -243,11 +249,12 @@ rootScaleRatio f = Power f (negsuc 0)
 
 -- ---- TreeScale
 
--- of the first m nodes the internal ones are scaled; it never declines
+-- of the first m nodes the internal ones are scaled; no line says that it declines
 unfoldable pub scaledTo : ℕ → Tree → Float → ℕ → Tree
 scaledTo n t f zero = t
 scaledTo n t f (suc m) = cond (inner n m) (setHeight (scaledTo n t f m) m (mul binary64 (height t m) f)) (scaledTo n t f m)
 
+-- all of them
 abbrev pub treeScaled : ℕ → Tree → Float → Tree
 treeScaled n t f = scaledTo n t f n
 
@@ -270,6 +277,10 @@ pub record TipAgeListed (n : ℕ) (t : Tree) (k : ℕ) (least greatest x : Float
 unfoldable pub tipAgeDeclines : Tree → ℕ → Float → Float → Bool
 tipAgeDeclines t k least greatest = le (ceiling t k greatest) least
 
--- the height goes to the tip; even
+-- "The chosen height goes to the node"
 abbrev pub tipMoved : Tree → ℕ → Float → Tree
 tipMoved t k x = setHeight t k x
+
+-- "tip ages are even"
+abbrev pub tipAgeRatio : Ratio
+tipAgeRatio = Even

@@ -78,27 +78,38 @@ abbrev pub flat : Tree
 flat = five 0 1 2 3 (3 ∷ 3 ∷ 4 ∷ 4 ∷ noNode ∷ []) (0·0 ∷ 0·0 ∷ 0·0 ∷ 0·0 ∷ 2·0 ∷ []) 4
 
 -- seven nodes: 4 = (a, b), 5 = (c, d) and 6 = (e, f), with the tips at 0 and the others at these heights
-abbrev pub seven : ℕ → ℕ → ℕ → ℕ → ℕ → ℕ → List ℕ → Float → Float → Float → Tree
-seven a b c d e f parents h4 h5 h6 = record {
+abbrev pub seven : ℕ → ℕ → ℕ → ℕ → ℕ → ℕ → List ℕ → Float → Float → Float → ℕ → Tree
+seven a b c d e f parents h4 h5 h6 root = record {
   pairs = noNode ∷ noNode ∷ noNode ∷ noNode ∷ noNode ∷ noNode ∷ noNode ∷ noNode ∷ a ∷ b ∷ c ∷ d ∷ e ∷ f ∷ [];
   parents = parents;
   heights = 0·0 ∷ 0·0 ∷ 0·0 ∷ 0·0 ∷ h4 ∷ h5 ∷ h6 ∷ [];
-  root = 6;
+  root = root;
 }
 
 -- 4 = (0, 1) at 1, 5 = (2, 3) at 2, 6 = (4, 5) at 3; and 4 and 2 exchanged
 abbrev pub paired : Tree
-paired = seven 0 1 2 3 4 5 (4 ∷ 4 ∷ 5 ∷ 5 ∷ 6 ∷ 6 ∷ noNode ∷ []) 1·0 2·0 3·0
+paired = seven 0 1 2 3 4 5 (4 ∷ 4 ∷ 5 ∷ 5 ∷ 6 ∷ 6 ∷ noNode ∷ []) 1·0 2·0 3·0 6
 
 abbrev pub unpaired : Tree
-unpaired = seven 0 1 4 3 2 5 (4 ∷ 4 ∷ 6 ∷ 5 ∷ 5 ∷ 6 ∷ noNode ∷ []) 1·0 2·0 3·0
+unpaired = seven 0 1 4 3 2 5 (4 ∷ 4 ∷ 6 ∷ 5 ∷ 5 ∷ 6 ∷ noNode ∷ []) 1·0 2·0 3·0 6
 
--- 4 = (0, 1) at 1, 5 = (4, 2) at 2, 6 = (5, 3) at 3; and 4 = (0, 5) at 2.5, 5 = (1, 2), 6 = (4, 3)
+-- 4 = (0, 1) at 1, 5 = (4, 2) at 2, 6 = (5, 3) at 3
 abbrev pub comb : Tree
-comb = seven 0 1 4 2 5 3 (4 ∷ 4 ∷ 5 ∷ 6 ∷ 5 ∷ 6 ∷ noNode ∷ []) 1·0 2·0 3·0
+comb = seven 0 1 4 2 5 3 (4 ∷ 4 ∷ 5 ∷ 6 ∷ 5 ∷ 6 ∷ noNode ∷ []) 1·0 2·0 3·0 6
 
+-- of it with 4 at 2.5: 4 = (0, 5), 5 = (1, 2), 6 = (4, 3); and 4 = (0, 3), 5 = (1, 2), 6 = (5, 4)
 abbrev pub raised : Tree
-raised = seven 0 5 1 2 4 3 (4 ∷ 5 ∷ 5 ∷ 6 ∷ 6 ∷ 4 ∷ noNode ∷ []) 2·5 2·0 3·0
+raised = seven 0 5 1 2 4 3 (4 ∷ 5 ∷ 5 ∷ 6 ∷ 6 ∷ 4 ∷ noNode ∷ []) 2·5 2·0 3·0 6
+
+abbrev pub crossed : Tree
+crossed = seven 0 3 1 2 5 4 (4 ∷ 5 ∷ 5 ∷ 4 ∷ 6 ∷ 6 ∷ noNode ∷ []) 2·5 2·0 3·0 6
+
+-- 4 = (1, 2) at 1, 5 = (4, 3) at 2, 6 = (0, 5) at 3; and 4 = (6, 2), 6 = (0, 1) at 1, root 5
+abbrev pub outer : Tree
+outer = seven 1 2 4 3 0 5 (6 ∷ 4 ∷ 4 ∷ 5 ∷ 5 ∷ 6 ∷ noNode ∷ []) 1·0 2·0 3·0 6
+
+abbrev pub sunk : Tree
+sunk = seven 6 2 4 3 0 1 (6 ∷ 6 ∷ 4 ∷ 5 ∷ 5 ∷ noNode ∷ 4 ∷ []) 1·0 2·0 1·0 5
 
 -- the factor of document 01's example, and the root's height after it
 abbrev pub example : Float

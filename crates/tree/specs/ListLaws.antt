@@ -13,6 +13,7 @@ use lib.Dec.{eqb}
 use lib.ListN.{length, getD, length-append, List·getD-append}
 use lib.Seq.{getD-append-add}
 use borrow.Author.Tests.{eq-eqb, ne-eqb}
+use Rattle.tree.specs.Tree.{place}
 
 -- ---- being in a list
 
@@ -66,11 +67,6 @@ pub before-right : (l m : List ℕ) {a c : ℕ} → Before m a c → Before (l +
 before-right l m h = (length l + h .0, (let b = h .1 in omega arith), getD-append-add l m (h .0) 0 ∙ h .2)
 
 -- ---- where a number is
-
--- the first place of c in l, or l's length if it has none
-unfoldable pub place : List ℕ → ℕ → ℕ
-place [] c = 0
-place (x ∷ xs) c = cond (eqb x c) 0 (suc (place xs c))
 
 -- a place before the end holds it
 pub place-holds : (l : List ℕ) (c : ℕ) → place l c < length l → getD l (place l c) 0 ≡ c

@@ -65,3 +65,8 @@ subtree (suc depth) n pairs k = cond (inner n k) (subtree depth n pairs (firstIn
 -- all nodes below the root, itself included: a tree of n nodes is less than n deep
 abbrev pub postorder : Tree → List ℕ
 postorder t = subtree (nodesOf (t .pairs)) (nodesOf (t .pairs)) (t .pairs) (t .root)
+
+-- the first place of a node in a list of nodes, from 0; the list's length where it is not in it
+unfoldable pub place : List ℕ → ℕ → ℕ
+place [] c = 0
+place (k ∷ ks) c = cond (eqb k c) 0 (suc (place ks c))
