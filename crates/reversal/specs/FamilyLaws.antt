@@ -1,9 +1,11 @@
--- Parents, children and siblings in a tree that is linked. In order: a shape is linked (`shaped-linked`); the other child of a node's parent
--- (`Sibling`, `sibling-is`), and that there is no third (`sibling-only`); heights of the nodes under a node (`under-le`), nodes told apart by
--- their heights (`differ`), and the sibling's where every child is strictly younger (`sibling-below`). Assumes nothing.
+-- Parents, children and siblings in a tree that is linked. In order: a shape is linked (`shaped-linked`), and no tip is a parent (`tip-apart`);
+-- the other child of a node's parent (`Sibling`, `sibling-is`), and that there is no third (`sibling-only`); heights of the nodes under a node
+-- (`under-le`), nodes told apart by their heights (`differ`), and the sibling's where every child is strictly younger (`sibling-below`). Assumes
+-- nothing.
 use mathlib.Core.Path.{_≡_, sym, _∙_, subst}
 use mathlib.Core.Logic.{_≢_, _⊎_, inl, inr}
-use Prim.Native.Nat.{ℕ, _<_}
+use Prim.Native.Nat.{ℕ, _+_, _≤_, _<_}
+use native.Mathlib.Omega.{arith}
 use borrow.Author.Tests.{eq-eqb, ne-eqb}
 use lib.Dec.{T}
 use lib.Ieee.{lt, le}
@@ -17,6 +19,10 @@ use Rattle.edits.specs.SlotLaws.{Shaped, shaped-inner, shaped-below, root-node,
 -- a tree with a shape is linked
 pub shaped-linked : {n : ℕ} {t : Tree} {σ : ℕ → ℕ} → Shaped n t σ → Linked n t
 shaped-linked s = record { few = s .sized .few; inner = shaped-inner s; root-node = root-node s; root-parent = root-parent s; below = shaped-below s }
+
+-- no tip is a parent
+pub tip-apart : {n : ℕ} {t : Tree} → Linked n t → (i : ℕ) → i < n → i ≢ t .root → (k : ℕ) → k + k ≤ n → k ≢ parent t i
+tip-apart {n} {t} l i I r k h e = let p : n < parent t i + parent t i = l .below i I r .parent-inner in omega arith
 
 -- ---- the other child
 

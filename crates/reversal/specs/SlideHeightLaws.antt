@@ -4,7 +4,6 @@ use mathlib.Core.Path.{_≡_, refl, sym, _∙_, subst}
 use mathlib.Core.Logic.{_≢_, _⊎_, inl, inr}
 use mathlib.Core.Bool.{Bool, true, false, not}
 use Prim.Native.Nat.{ℕ, _+_, _≤_, _<_}
-use native.Mathlib.Omega.{arith}
 use native.Mathlib.Decide.{ℕ-discrete}
 use lib.Dec.{T}
 use lib.Ieee.{Float, lt, le}
@@ -19,7 +18,7 @@ use Rattle.edits.specs.SlotLaws.{not-own-parent}
 use Rattle.edits.specs.HeightLaws.{set-parent, set-root, set-back, height-other}
 use Rattle.reversal.specs.Reversed.{even}
 use Rattle.reversal.specs.FailedLaws.{failed, le-nlt}
-use Rattle.reversal.specs.FamilyLaws.{Sibling, sibling-is, sibling-only, sibling-below, differ}
+use Rattle.reversal.specs.FamilyLaws.{tip-apart, Sibling, sibling-is, sibling-only, sibling-below, differ}
 use Rattle.reversal.specs.DatedLaws.{height-at, set-valid}
 use Rattle.reversal.specs.BranchLaws.{stops}
 use Rattle.reversal.specs.SlideWayLaws.{Slides, up, level, slid-only, ratio-only, backIndex, back-none, Returns}
@@ -44,8 +43,8 @@ module _ {n : ℕ} {t : Tree} {i : ℕ} {x : Float} (g : Sliding n t i x) where
   parent-inner = g .valid .below i (g .node) (g .under) .parent-inner
 
   -- so a tip is not P
-  pub tip-apart : (k : ℕ) → k + k ≤ n → k ≢ parent t i
-  tip-apart k h e = let p : n < parent t i + parent t i = parent-inner in omega arith
+  pub tip-other : (k : ℕ) → k + k ≤ n → k ≢ parent t i
+  tip-other = tip-apart (valid-linked (g .valid)) i (g .node) (g .under)
 
   -- the sibling is P's other child
   pub sibling-kin : Sibling n t i (sibling t i)
@@ -165,7 +164,7 @@ module _ {n : ℕ} {t : Tree} {i : ℕ} {x : Float} (g : Sliding n t i x) (a : T
   pub height-returns : Returns n t i (setHeight t (parent t i) x) Even
   height-returns = record {
     valid = only-valid;
-    tips = λ k q. elsewhere k (tip-apart g k q);
+    tips = λ k q. elsewhere k (tip-other g k q);
     under = λ e. g .under (e ∙ set-root t (parent t i) x);
     to = parent (only t i x) i;
     way = only-way (backIndex n t (only t i x) i);

@@ -3,8 +3,7 @@
 use mathlib.Core.Path.{_≡_, sym, ap, _∙_}
 use mathlib.Core.Logic.{_≢_}
 use mathlib.Core.Bool.{false, _||_, or-true}
-use Prim.Native.Nat.{ℕ, _+_, _≤_, _<_}
-use native.Mathlib.Omega.{arith}
+use Prim.Native.Nat.{ℕ, _<_}
 use borrow.Author.Tests.{eqb-false, ne-eqb}
 use lib.Dec.{T, eqb}
 use lib.Ieee.{Float, lt, le, eq}
@@ -22,7 +21,7 @@ use Rattle.rules.specs.Moves.{WilsonBalding}
 use Rattle.reversal.specs.IntervalLaws.{within-low, within-high, within-is, within-finite}
 use Rattle.reversal.specs.Reversed.{lengths}
 use Rattle.reversal.specs.Back.{Reverses}
-use Rattle.reversal.specs.FamilyLaws.{Sibling, sibling-is, differ, sibling-below}
+use Rattle.reversal.specs.FamilyLaws.{tip-apart, Sibling, sibling-is, differ, sibling-below}
 use Rattle.reversal.specs.FailedLaws.{or-first, or-second}
 use Rattle.reversal.specs.GraftLaws.{Grafts, graft-parent-node, graft-child, graft-three, graft-node, graft-old-sibling, graft-parent, graft-height, graft-sibling, graft-root-same, graft-back}
 use Rattle.reversal.specs.GraftValidLaws.{graft-valid}
@@ -195,7 +194,7 @@ module _ {n : ℕ} {t : Tree} (v : Valid n t) (st : Strict n t) {i j : ℕ} {x :
 pub wilson-reverses : Reverses WilsonBalding
 wilson-reverses n t v st c l e = record {
   valid = wilson-valid v st l f;
-  tips = λ k h. kept v st l f k (tip k h);
+  tips = λ k h. kept v st l f k (tip-apart (valid-linked v) (c .i) (l .node-i) (l .under-i) k h);
   listed = wilson-listed v st l f;
   free = undeclined (regraft n t (c .i) (c .j) (c .height)) (c .i) (sibling t (c .i)) (wilson-free v st l f);
   tree = graft-back v (grafts v st l f) (c .height);
@@ -204,6 +203,3 @@ wilson-reverses n t v st c l e = record {
   where
     f : Free t (c .i) (c .j)
     f = freed t (c .i) (c .j) e
-
-    tip : (k : ℕ) → k + k ≤ n → k ≢ parent t (c .i)
-    tip k h q = let b : n < parent t (c .i) + parent t (c .i) = v .below (c .i) (l .node-i) (l .under-i) .parent-inner in omega arith

@@ -1,5 +1,5 @@
--- A tree as it is lent, what its fields say of a node, and the order in which its nodes are visited. A list read past its end gives 0, or
--- nan for a height; nothing here is asked there. Definitions only. Assumes nothing.
+-- A tree as it is lent, what its fields say of a node, the order in which its nodes are visited, and the place of a node in such a list. A list
+-- read past its end gives 0, or nan for a height; nothing here is asked there. Definitions only. Assumes nothing.
 use mathlib.Core.Bool.{Bool, cond}
 use mathlib.Core.List.{List, [], _∷_, _++_}
 use Prim.Native.Nat.{ℕ, zero, suc, _+_, _/_}
