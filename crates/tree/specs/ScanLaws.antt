@@ -55,7 +55,7 @@ if-failed : (b : Bool) (s : Scan) (why : Refusal) {ps : List ℕ} → cond b (st
 if-failed true s why e = absurd (no-stop e)
 if-failed false s why e = (tt, e)
 
-neqb→ne : (a b : ℕ) → T (not (eqb a b)) → a ≢ b
+pub neqb→ne : (a b : ℕ) → T (not (eqb a b)) → a ≢ b
 neqb→ne a b h e = rw (eq-eqb a b e) at h
 
 -- ---- one child

@@ -1,0 +1,94 @@
+-- The ways through the draws that several moves make: a node other than the root (`nonRootLaws`), an internal node (`internalLaws`), a
+-- height in an interval (`intervalLaws`) and the factor of a scale (`scalerLaws`). Assumes nothing.
+use mathlib.Core.Path.{_≡_, refl}
+use mathlib.Core.Bool.{Bool, true, false, not, _&&_}
+use Prim.Native.Nat.{ℕ, _+_, _-_, _<_, _≤_}
+use native.Mathlib.Omega.{arith}
+use lib.Dec.{T, eqb}
+use lib.Ieee.{Float, binary64, add, sub, mul, div, le, nanBits}
+use mir.Val.{Fits}
+use mir.Syntax.{w64}
+use borrow.Author.Tests.{eq-eqb, ne-eqb}
+use Rattle.random.specs.declared.Supply.{Supply}
+use Rattle.random.specs.declared.DrawnNumber.{DrawnNumber}
+use Rattle.random.specs.Draw.{below, got, spent, onward, pick, drawnNumber}
+use Rattle.random.specs.DrawLaws.{below-yields}
+use Rattle.random.specs.SupplyLaws.{number-got, number-spent}
+use Rattle.tree.specs.Tree.{tipsOf}
+use Rattle.rules.specs.Rules.{internals, within}
+use Rattle.calls.specs.declared.Height.the-variants as Heights
+use Rattle.calls.specs.Programs.{nonRoot, internal, one, scaler, interpolated}
+use Rattle.calls.specs.Given.{heightOf}
+use Rattle.calls.specs.RedrawLaws.{redraw-fewer, redraw-spent, redraw-taken, redraw-passed}
+
+-- ---- a node other than the root
+
+module _ (n root : ℕ) (s : Supply) (r : DrawnNumber) (e : r ≡ drawnNumber s (pick (below n) s)) where
+  module _ (s₀ : Supply) (inv : pick (nonRoot n root) s₀ ≡ pick (nonRoot n root) s) where
+    pub non-root-spent : r .ok ≡ false → record { ok = false; value = 0; supply = s₀ } ≡ drawnNumber s₀ (pick (nonRoot n root) s₀)
+    unfolding nonRoot
+    non-root-spent h = redraw-spent (λ k. not (eqb k root)) (below n) s r e s₀ inv h
+
+    module _ (h : r .ok ≡ true) where
+      pub non-root-taken : (r .value ≡ root → ⊥) → record { ok = true; value = r .value; supply = r .supply } ≡ drawnNumber s₀ (pick (nonRoot n root) s₀)
+      unfolding nonRoot
+      non-root-taken d = redraw-taken (λ k. not (eqb k root)) (below n) s r e s₀ inv h (rw (ne-eqb (r .value) root d))
+
+      pub non-root-passed : r .value ≡ root → pick (nonRoot n root) s₀ ≡ pick (nonRoot n root) (r .supply)
+      unfolding nonRoot
+      non-root-passed d = redraw-passed (λ k. not (eqb k root)) (below n) s r e s₀ inv h (rw (eq-eqb (r .value) root d))
+
+  pub non-root-fewer : r .ok ≡ true → r .supply .left < s .left
+  non-root-fewer h = redraw-fewer (λ k. not (eqb k root)) (below n) s r e h
+
+pub ruleset nonRootLaws = (non-root-spent, non-root-taken, non-root-passed, non-root-fewer)
+
+-- ---- an internal node
+
+module _ (n : ℕ) (s : Supply) (r : DrawnNumber) (e : r ≡ drawnNumber s (pick (below (n - tipsOf n)) s)) where
+  pub internal-drawn : r .ok ≡ true → record { ok = true; value = tipsOf n + r .value; supply = r .supply } ≡ drawnNumber s (pick (internal n) s)
+  unfolding internal pick onward
+  internal-drawn h = rw (number-got s r (pick (below (n - tipsOf n)) s) e h)
+
+  pub internal-spent : r .ok ≡ false → record { ok = false; value = 0; supply = s } ≡ drawnNumber s (pick (internal n) s)
+  unfolding internal pick onward
+  internal-spent h = rw (number-spent s r (pick (below (n - tipsOf n)) s) e h)
+
+  pub internal-fits : n ≤ 4095 → r .ok ≡ true → Fits w64 (tipsOf n + r .value)
+  internal-fits h k =
+      let b : r .value < n - tipsOf n = below-yields (n - tipsOf n) s (r .value) (r .supply) (number-got s r (pick (below (n - tipsOf n)) s) e k) in
+      record { fits = omega arith }
+
+pub ruleset internalLaws = (internal-drawn, internal-spent, internal-fits)
+
+-- ---- a height in an interval
+
+module _ (lower x upper : Float) where
+  pub within-low : le lower x ≡ true → le x upper ≡ within lower x upper
+  within-low h = rw h
+
+  pub within-not-low : le lower x ≡ false → le lower x ≡ within lower x upper
+  within-not-low h = rw h
+
+module _ (lower upper u : Float) (b : Bool) (e : b ≡ within lower (add binary64 lower (mul binary64 u (sub binary64 upper lower))) upper) where
+  pub interval-inside : b ≡ true → Heights.At (add binary64 lower (mul binary64 u (sub binary64 upper lower))) ≡ heightOf lower upper u
+  unfolding interpolated
+  interval-inside h = rw (← e, h)
+
+  pub interval-outside : b ≡ false → Heights.Outside ≡ heightOf lower upper u
+  unfolding interpolated
+  interval-outside h = rw (← e, h)
+
+pub ruleset intervalLaws = (within-low, within-not-low, interval-inside, interval-outside)
+
+-- ---- the factor of a scale
+
+pub scaler-is : (s u : Float) → add binary64 s (mul binary64 u (sub binary64 (div binary64 one s) s)) ≡ scaler s u
+unfolding scaler
+scaler-is s u = refl
+
+pub tuning-read : T (not (nanBits binary64 0x3e45_798e_e230_8c3a))
+unfolding nanBits
+tuning-read = tt
+
+pub ruleset scalerLaws = (scaler-is, tuning-read)

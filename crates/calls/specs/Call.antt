@@ -1,0 +1,85 @@
+-- How a call goes: what it is given is checked, its program of draws is run within the allowance, and what the program ends in is given, or the
+-- call is turned back. A program ends in a value, or in the 7 or the 8 that it meets, so that past the checks only 6, 7 and 8 can turn a call
+-- back. Definitions only. Assumes nothing.
+use mathlib.Core.Bool.{Bool, cond, _&&_}
+use mathlib.Core.List.{List}
+use Prim.Native.Nat.{ℕ, _-_}
+use lib.Ieee.{Float}
+use Rattle.answer.specs.declared.Refusal.{Refusal}
+use Rattle.answer.specs.declared.Refusal.the-variants.{Parameter, Allowance, NotFinite, Outside}
+use Rattle.answer.specs.declared.Ratio.{Ratio}
+use Rattle.answer.specs.declared.Answer.{Answer}
+use Rattle.answer.specs.declared.Answer.the-variants as Answers
+use Rattle.random.specs.declared.Random.{Random}
+use Rattle.random.specs.Draw.{Draw, Drawn, spent, got, run, supplyOf, allowed}
+use Rattle.tree.specs.declared.Verdict.{Verdict}
+use Rattle.tree.specs.declared.Verdict.the-variants as Verdicts
+use Rattle.tree.specs.Tree.{Tree}
+use Rattle.tree.specs.New.{validated}
+
+-- ---- any call
+
+-- what a program ends in: a value; or a node "whose new height is not finite", or whose "drawn height is outside its interval"
+pub data Reply (A : Type 0) : Type 0 where
+  makes : A → Reply A
+  notFinite : ℕ → Reply A
+  outside : ℕ → Reply A
+
+-- how a call ends: turned back; or with a value, the draws made and the generator after them
+pub data Ending (A : Type 0) : Type 0 where
+  refused : Refusal → Ending A
+  given : A → ℕ → Random → Ending A
+
+-- 6 where "the Rust would make more draws than allowed"; 7 and 8 as the program meets them
+unfoldable pub ended : {A : Type 0} → ℕ → Drawn (Reply A) → Ending A
+ended allowance spent = refused (Allowance allowance)
+ended allowance (got (notFinite k) s) = refused (NotFinite k)
+ended allowance (got (outside k) s) = refused (Outside k)
+ended allowance (got (makes a) s) = given a (allowance - s .left) (s .random)
+
+-- "1 to 5" in their order: the tree, then whether its other parameters are within their limits
+abbrev pub thenLimits : Verdict → Bool → Verdict
+thenLimits (Verdicts.Refused why) b = Verdicts.Refused why
+thenLimits Verdicts.Fine b = cond b Verdicts.Fine (Verdicts.Refused (Parameter 0))
+
+unfoldable pub checked : Bool → Tree → ℕ → Verdict
+checked limits t allowance = thenLimits (validated t) (limits && allowed allowance)
+
+-- "then 6 to 8 as the move meets them"
+abbrev pub past : {A : Type 0} → Verdict → Ending A → Ending A
+past (Verdicts.Refused why) e = refused why
+past Verdicts.Fine e = e
+
+-- a call on the tree t with a program that was made for it
+unfoldable pub callOf : {A : Type 0} → Bool → Draw (Reply A) → Tree → Random → ℕ → Ending A
+callOf limits program t g allowance = past (checked limits t allowance) (ended allowance (run program (supplyOf g allowance)))
+
+-- ---- a call of a tree move
+
+-- "Declined is the Rust's `None`"
+pub data Outcome : Type 0 where
+  declined : Outcome
+  moved : Tree → Ratio → Outcome
+
+-- what a call leaves: its answer, the generator, and the lent slices
+pub record Called : Type 0 where
+  pub answer : Answer
+  pub random : Random
+  pub pairs : List ℕ
+  pub parents : List ℕ
+  pub heights : List Float
+
+abbrev pub called : Answer → Random → List ℕ → List ℕ → List Float → Called
+called a g pairs parents heights = record { answer = a; random = g; pairs = pairs; parents = parents; heights = heights }
+
+abbrev pub calledOn : Answer → Random → Tree → Called
+calledOn a g t = called a g (t .pairs) (t .parents) (t .heights)
+
+-- "Returned, buffers untouched, generator as given"; declined, "tree and parameters unchanged, generator advanced by the draws made"
+unfoldable pub leaves : Tree → Random → Ending Outcome → Called
+leaves t g (refused why) = calledOn (Answers.Refused why) g t
+leaves t g (given declined draws h) = calledOn (Answers.Declined draws) h t
+leaves t g (given (moved u r) draws h) = calledOn (Answers.Moved (record { root = u .root; draws = draws; ratio = r })) h u
+
+unfoldable pub treeCall : Bool → Draw (Reply Outcome) → Tree → Random → ℕ → Called
+treeCall limits program t g allowance = leaves t g (callOf limits program t g allowance)

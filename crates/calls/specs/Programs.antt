@@ -1,0 +1,157 @@
+-- What each tree move draws, in the order of "the Rust functions of the same names", and what it makes of it: the draws, the test of what is
+-- declined, and the rule of rules/Rules. Definitions only. Assumes nothing.
+use mathlib.Core.Bool.{Bool, not, _&&_, cond}
+use Prim.Native.Nat.{ℕ, zero, suc, _+_}
+use lib.Dec.{ltb, eqb}
+use lib.ListN.{length}
+use lib.Ieee.{Float, binary64, ofBits, add, sub, mul, div, le}
+use lib.Ieee.Scale.{finite}
+use Rattle.answer.specs.declared.Ratio.{Ratio}
+use Rattle.answer.specs.declared.Ratio.the-variants.{Even}
+use Rattle.random.specs.Draw.{Number, until, map, below, Draw, return, draw, _>>=_, uniform, coin}
+use Rattle.real.specs.Real.{maxOf}
+use Rattle.tree.specs.Tree.{Tree, nodesOf, tipsOf, inner, parent, height, sibling}
+use Rattle.rules.specs.Rules as Rules
+use Rattle.rules.specs.Rules.{internals, oneInternal, floor, within}
+use Rattle.calls.specs.Call.{Reply, makes, notFinite, outside, Outcome, declined, moved}
+
+-- ---- for several moves
+
+-- "a non-root node"
+unfoldable pub nonRoot : ℕ → ℕ → Number
+nonRoot n root = until (λ k. not (eqb k root)) (below n)
+
+-- "an internal node"
+unfoldable pub internal : ℕ → Number
+internal n = map (λ k. tipsOf n + k) (below (internals n))
+
+abbrev pub one : Float
+one = ofBits binary64 0x3ff0_0000_0000_0000
+
+-- "`scaler` is s + u·(1/s − s) with u a uniform, each operation rounded once in the order written"
+unfoldable pub scaler : Float → Float → Float
+scaler s u = add binary64 s (mul binary64 u (sub binary64 (div binary64 one s) s))
+
+-- a height in an interval is lower + u·(upper − lower), rounded likewise
+unfoldable pub interpolated : Float → Float → Float → Float
+interpolated lower upper u = add binary64 lower (mul binary64 u (sub binary64 upper lower))
+
+-- node k takes a height that is drawn from lower to upper; 8 where "a drawn height is outside its interval"
+unfoldable pub drawnHeight : ℕ → Float → Float → (Float → Outcome) → Draw (Reply Outcome)
+drawnHeight k lower upper make = do
+  u ← uniform
+  let x = interpolated lower upper u in return (cond (within lower x upper) (makes (make x)) (outside k))
+
+-- the lowest number below m that passes, or m where none does
+unfoldable pub least : (ℕ → Bool) → ℕ → ℕ
+least test zero = zero
+least test (suc m) = let k = least test m in cond (ltb k m) k (cond (test m) m (suc m))
+
+-- ---- limits
+
+-- 1e-8
+abbrev pub leastTuning : Float
+leastTuning = ofBits binary64 0x3e45_798e_e230_8c3a
+
+-- "tuning 1e-8 to 1"
+abbrev pub tuned : Float → Bool
+tuned s = within leastTuning s one
+
+-- "slide node below n and not the root; step [...] finite"
+abbrev pub slidable : Tree → ℕ → Float → Bool
+slidable t i step = ltb i (nodesOf (t .pairs)) && not (eqb i (t .root)) && finite step
+
+-- ---- the moves, t being the tree
+
+-- "an internal node other than the root; a height from its taller child's to its parent's"
+unfoldable pub nodeHeight : Tree → Draw (Reply Outcome)
+nodeHeight t =
+    let n = nodesOf (t .pairs) in
+    cond (Rules.nodeHeightDeclines n) (return (makes declined)) (do
+      k ← draw (until (λ k. not (eqb k (t .root))) (internal n))
+      drawnHeight k (floor t k) (height t (parent t k)) (λ x. moved (Rules.heightMoved t k x) Even))
+
+-- the node of a slide, and the two uniforms of the step
+pub record Start : Type 0 where
+  pub node : ℕ
+  pub first : Float
+  pub second : Float
+
+-- "the first gives the node and two uniforms, or a 6"
+unfoldable pub slideStart : Tree → Draw (Reply Start)
+slideStart t = do
+  i ← draw (nonRoot (nodesOf (t .pairs)) (t .root))
+  u ← uniform
+  v ← uniform
+  return (makes (record { node = i; first = u; second = v }))
+
+-- P's new height
+abbrev pub slideHeight : Tree → ℕ → Float → Float
+slideHeight t i step = add binary64 (height t (parent t i)) step
+
+-- the slide's choice: what it makes, and with which ratio
+abbrev pub slides : ℕ → Tree → ℕ → Float → ℕ → Outcome
+slides n t i x index = moved (Rules.slid n t i x index) (Rules.slideRatio n t i x index)
+
+-- "the second takes node and step": the branch is "picked by index" where one is needed
+unfoldable pub subtreeSlide : ℕ → Float → Tree → Draw (Reply Outcome)
+subtreeSlide i step t =
+    let n = nodesOf (t .pairs) in
+    let x = slideHeight t i step in
+    cond (not (finite x)) (return (notFinite (parent t i))) (cond (Rules.slideDeclines n t i x) (return (makes declined)) (cond (Rules.lowers t i x) (do
+      index ← draw (below (length (Rules.branches n t x (sibling t i))))
+      return (makes (slides n t i x index))) (return (makes (slides n t i x 0)))))
+
+-- "an internal node with an internal child; then its taller child (the first if equal) and one side of that"
+unfoldable pub narrowExchange : Tree → Draw (Reply Outcome)
+narrowExchange t =
+    let n = nodesOf (t .pairs) in
+    cond (oneInternal n) (return (makes declined)) (do
+      g ← draw (until (Rules.grand n t) (internal n))
+      cond (Rules.narrowDeclines n t g) (return (makes declined)) (do
+        side ← coin
+        return (makes (moved (Rules.narrowed n t g side) (Rules.narrowRatio n t g side)))))
+
+-- "distinct non-root i, j"
+unfoldable pub wideExchange : Tree → Draw (Reply Outcome)
+wideExchange t =
+    let n = nodesOf (t .pairs) in do
+      i ← draw (nonRoot n (t .root))
+      j ← draw (until (λ j. not (eqb j i)) (nonRoot n (t .root)))
+      return (makes (cond (Rules.wideDeclines t i j) declined (moved (Rules.widened n t i j) Even)))
+
+-- i and j with p's new height: what they make, and with which ratio
+abbrev pub wilsons : Tree → ℕ → ℕ → Float → Outcome
+wilsons t i j x = moved (Rules.wilsonMoved (nodesOf (t .pairs)) t i j x) (Rules.wilsonRatio t i j)
+
+-- "Height from max(h(i), h(j)) to h(q)"
+abbrev pub wilsonHeight : Tree → ℕ → ℕ → Draw (Reply Outcome)
+wilsonHeight t i j = drawnHeight (parent t i) (maxOf (height t i) (height t j)) (height t (parent t j)) (wilsons t i j)
+
+-- "non-root i with parent p; j other than i that is the root or has a parent q taller than i"
+unfoldable pub wilsonBalding : Tree → Draw (Reply Outcome)
+wilsonBalding t =
+    let n = nodesOf (t .pairs) in do
+      i ← draw (nonRoot n (t .root))
+      j ← draw (until (λ j. not (eqb j i) && Rules.hosts t i j) (below n))
+      cond (Rules.wilsonDeclines t i j) (return (makes declined)) (wilsonHeight t i j)
+
+-- the root's height times f; 7 where that is not finite
+unfoldable pub rootScale : Float → Tree → Draw (Reply Outcome)
+rootScale s t = do
+  u ← uniform
+  let f = scaler s u in
+      return (cond (not (finite (Rules.rootHeight t f))) (notFinite (t .root)) (makes (cond (Rules.rootScaleDeclines t f) declined (moved (Rules.rootScaled t f) (Rules.rootScaleRatio f)))))
+
+-- an internal node's height times f is not finite
+abbrev pub overflows : ℕ → Tree → Float → ℕ → Bool
+overflows n t f k = inner n k && not (finite (mul binary64 (height t k) f))
+
+-- all internal heights times f; 7 for the "lowest node whose new height is not finite"
+unfoldable pub treeScale : Float → Tree → Draw (Reply Outcome)
+treeScale s t =
+    let n = nodesOf (t .pairs) in do
+      u ← uniform
+      let f = scaler s u in
+          let k = least (overflows n t f) n in
+          return (cond (ltb k n) (notFinite k) (makes (moved (Rules.treeScaled n t f) (Rules.treeScaleRatio n f))))
