@@ -5,5 +5,6 @@ pub mod Programs
 pub mod Moves
 pub mod Given
 pub mod EntryLaws
+pub mod CallLaws
 pub mod RedrawLaws
 pub mod YieldLaws
