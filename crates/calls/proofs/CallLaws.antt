@@ -1,9 +1,7 @@
 -- The ways through the check before a move (`checkLaws`) and through its answer (`answerLaws`). Assumes nothing.
 use mathlib.Core.Path.{_≡_}
 use mathlib.Core.Bool.{Bool, true, false}
-use mathlib.Core.List.{List}
 use Prim.Native.Nat.{ℕ, _-_}
-use lib.Ieee.{Float}
 use Rattle.answer.specs.declared.Refusal.{Refusal}
 use Rattle.answer.specs.declared.Refusal.the-variants.{Parameter, Allowance, NotFinite, Outside}
 use Rattle.answer.specs.declared.Ratio.{Ratio}

@@ -1,7 +1,7 @@
 -- The ways through the draws that several moves make: a node other than the root (`nonRootLaws`), an internal node (`internalLaws`), a
 -- height in an interval (`intervalLaws`) and the factor of a scale (`scalerLaws`). Assumes nothing.
 use mathlib.Core.Path.{_≡_, refl}
-use mathlib.Core.Bool.{Bool, true, false, not, _&&_}
+use mathlib.Core.Bool.{Bool, true, false, not}
 use Prim.Native.Nat.{ℕ, _+_, _-_, _<_, _≤_}
 use native.Mathlib.Omega.{arith}
 use lib.Dec.{T, eqb}
@@ -11,11 +11,11 @@ use mir.Syntax.{w64}
 use borrow.Author.Tests.{eq-eqb, ne-eqb}
 use Rattle.random.specs.declared.Supply.{Supply}
 use Rattle.random.specs.declared.DrawnNumber.{DrawnNumber}
-use Rattle.random.specs.Draw.{below, got, spent, onward, pick, drawnNumber}
+use Rattle.random.specs.Draw.{below, onward, pick, drawnNumber}
 use Rattle.random.specs.DrawLaws.{below-yields}
 use Rattle.random.specs.SupplyLaws.{number-got, number-spent}
 use Rattle.tree.specs.Tree.{tipsOf}
-use Rattle.rules.specs.Rules.{internals, within}
+use Rattle.rules.specs.Rules.{within}
 use Rattle.calls.specs.declared.Height.the-variants as Heights
 use Rattle.calls.specs.Programs.{nonRoot, internal, one, scaler, interpolated}
 use Rattle.calls.specs.Given.{heightOf}

@@ -4,7 +4,7 @@
 -- the checks only 6, 7 and 8 turn a call back (`call-refused`). Assumes nothing.
 use mathlib.Core.Path.{_≡_, refl, sym, ap, _∙_, subst}
 use mathlib.Core.Logic.{_⊎_, inl, inr}
-use mathlib.Core.Bool.{Bool, true, false, _&&_, and-eq-true-iff}
+use mathlib.Core.Bool.{Bool, true, and-eq-true-iff}
 use Prim.Native.Nat.{ℕ, _+_, _-_, _≤_}
 use native.Mathlib.Omega.{arith}
 use lib.Dec.{leb}
@@ -20,7 +20,7 @@ use Rattle.random.specs.DrawLaws.{run-lawful}
 use Rattle.tree.specs.declared.Verdict.{Verdict}
 use Rattle.tree.specs.declared.Verdict.the-variants as Verdicts
 use Rattle.tree.specs.Tree.{Tree}
-use Rattle.calls.specs.Call.{Reply, makes, notFinite, outside, Ending, refused, given, ended, thenLimits, checked, past, callOf}
+use Rattle.calls.specs.Call.{Reply, makes, notFinite, outside, Ending, refused, given, ended, checked, past, callOf}
 use Rattle.calls.specs.EntryLaws.{Passed, passed}
 
 clash : {A X : Type 0} {why : Refusal} {a : A} {draws : ℕ} {h : Random} → _≡_ {A = Ending A} (refused why) (given a draws h) → X

@@ -2,14 +2,12 @@
 -- `entry-limits`), what a turn gives to the answer (`entry-left`), and that what is answered is the call (`entry-refused`, `entry-done`).
 -- Assumes nothing.
 use mathlib.Core.Path.{_≡_, refl, sym, ap, _∙_}
-use mathlib.Core.Bool.{Bool, true, false, cond, _&&_, and-eq-true-iff}
+use mathlib.Core.Bool.{Bool, true, false, _&&_, and-eq-true-iff}
 use mathlib.Core.List.{List}
-use Prim.Native.Nat.{ℕ, _-_, _≤_}
+use Prim.Native.Nat.{ℕ, _≤_}
 use native.Mathlib.Omega.{arith}
 use lib.Ieee.{Float}
 use Rattle.answer.specs.declared.Refusal.{Refusal}
-use Rattle.answer.specs.declared.Refusal.the-variants.{Parameter}
-use Rattle.answer.specs.declared.Answer.the-variants as Answers
 use Rattle.random.specs.declared.Random.{Random}
 use Rattle.random.specs.declared.Supply.{Supply}
 use Rattle.random.specs.Draw.{Draw, Drawn, spent, got, run, supplyOf, allowed}

@@ -4,9 +4,8 @@ use mathlib.Core.Bool.{Bool, not, _&&_, cond}
 use Prim.Native.Nat.{ℕ, zero, suc, _+_}
 use lib.Dec.{ltb, eqb}
 use lib.ListN.{length}
-use lib.Ieee.{Float, binary64, ofBits, add, sub, mul, div, le}
+use lib.Ieee.{Float, binary64, ofBits, add, sub, mul, div}
 use lib.Ieee.Scale.{finite}
-use Rattle.answer.specs.declared.Ratio.{Ratio}
 use Rattle.answer.specs.declared.Ratio.the-variants.{Even}
 use Rattle.random.specs.Draw.{Number, until, map, below, Draw, return, draw, _>>=_, uniform, coin}
 use Rattle.real.specs.Real.{maxOf}
