@@ -41,7 +41,7 @@ passed limits t allowance = go (validated t) refl (limits && allowed allowance) 
     go (Verdicts.Refused why) e b f h = let z : _≡_ {A = ℕ} 0 1 = cc in absurd (omega arith)
 
 -- v is what the check said
-module _ (limits : Bool) (pairs parents : List ℕ) (heights : List Float) (root : ℕ) (g : Random) (allowance : ℕ) (v : Verdict)
+module _ (limits : Bool) (pairs parents : List ℕ) (heights : List Float) (root allowance : ℕ) (v : Verdict)
     (e : v ≡ checked limits (treeOf pairs parents heights root) allowance) where
   abbrev t : Tree
   t = treeOf pairs parents heights root
@@ -52,10 +52,10 @@ module _ (limits : Bool) (pairs parents : List ℕ) (heights : List Float) (root
   pub entry-limits : v ≡ Verdicts.Fine → limits ≡ true
   entry-limits y = passed limits t allowance (sym e ∙ y) .within
 
-  pub entry-refused : (program : Draw (Reply Outcome)) (why : Refusal) → v ≡ Verdicts.Refused why → (r : Answered) → r ≡ turnedBack why g
+  pub entry-refused : (g : Random) (program : Draw (Reply Outcome)) (why : Refusal) → v ≡ Verdicts.Refused why → (r : Answered) → r ≡ turnedBack why g
       → called (r .answer) (r .random) pairs parents heights ≡ treeCall limits program (treeOf pairs parents heights root) g allowance
   unfolding treeCall callOf leaves
-  entry-refused program why y r er = rw (er, ← e, y)
+  entry-refused g program why y r er = rw (er, ← e, y)
 
 -- ---- a turn on the tree t, from the call's supply
 

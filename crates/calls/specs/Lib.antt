@@ -1,5 +1,5 @@
--- Call says how a call goes, Programs what each tree move draws, Moves takes the seven as one, Given has the forms of the code. EntryLaws,
--- RedrawLaws and YieldLaws are laws for the code of the moves.
+-- Call says how a call goes, Programs what each tree move draws, Moves takes the seven as one, Given has the forms of the code. CallLaws holds of
+-- every call; EntryLaws, RedrawLaws, HeightLaws and YieldLaws are for the code of the moves.
 pub mod Call
 pub mod Programs
 pub mod Moves
@@ -7,4 +7,5 @@ pub mod Given
 pub mod EntryLaws
 pub mod CallLaws
 pub mod RedrawLaws
+pub mod HeightLaws
 pub mod YieldLaws

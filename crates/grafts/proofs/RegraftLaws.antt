@@ -1,14 +1,13 @@
 -- The way through the regraft: the three nodes that move are nodes, and the tree afterwards is the rule's. Assumes nothing.
-use mathlib.Core.Path.{_≡_, sym, ap, _∙_}
+use mathlib.Core.Path.{_≡_, ap, _∙_}
 use mathlib.Core.List.{List}
 use Prim.Native.Nat.{ℕ, _<_}
 use lib.ListN.{length, getD, set}
 use lib.Ieee.{Float}
 use Rattle.tree.specs.Tree.{Tree, nodesOf, otherIn, parent, sibling}
-use Rattle.tree.specs.Valid.{Valid}
 use Rattle.tree.specs.Given.{treeOf}
 use Rattle.accepted.specs.WayLaws.{valid-linked}
-use Rattle.edits.specs.Slots.{rotate, setHeight, bare}
+use Rattle.edits.specs.Slots.{rotate, bare}
 use Rattle.edits.specs.Needs.{Rotates}
 use Rattle.edits.specs.NeedsLaws.{valid-rotates, valid-height, height-whole, rotate-whole}
 use Rattle.rules.specs.Rules.{regraft}

@@ -1,0 +1,38 @@
+-- `wilson::height_on` meets its contract. Assumes nothing.
+use borrow.Author.Needs.{needs}
+use Rattle.wilson.proofs.OntoLaws.{rangeLaws}
+use Rattle.wilson.proofs.height_on.Statement.{statement}
+use Rattle.wilson.proofs.height_on.Tie as tie
+
+parent-requires : tie.Need-parent-requires
+parent-requires c κs = search (rangeLaws, needs)
+
+height-requires : tie.Need-height-requires
+height-requires c κs = search (rangeLaws, needs)
+
+height-requires-2 : tie.Need-height-requires-2
+height-requires-2 c κs = search (rangeLaws, needs)
+
+height-requires-3 : tie.Need-height-requires-3
+height-requires-3 c κs = search (rangeLaws, needs)
+
+max-requires : tie.Need-max-requires
+max-requires c κs = search (rangeLaws, needs)
+
+interpolate-requires : tie.Need-interpolate-requires
+interpolate-requires c κs = search (rangeLaws, needs)
+
+returns : tie.Need-returns
+returns c = search (rangeLaws, needs)
+
+pub height-on-spec : {M : Type 1} → statement M
+height-on-spec =
+    tie.close
+    (tie.spec
+    parent-requires
+    height-requires
+    height-requires-2
+    height-requires-3
+    max-requires
+    interpolate-requires
+    returns)
