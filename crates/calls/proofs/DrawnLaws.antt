@@ -17,7 +17,7 @@ use Rattle.random.specs.SupplyLaws.{number-got, number-spent}
 use Rattle.tree.specs.Tree.{tipsOf}
 use Rattle.rules.specs.Rules.{within}
 use Rattle.calls.specs.declared.Height.the-variants as Heights
-use Rattle.calls.specs.Programs.{nonRoot, internal, one, scaler, interpolated}
+use Rattle.calls.specs.Draws.{nonRoot, internal, one, scaler, interpolated}
 use Rattle.calls.specs.Given.{heightOf}
 use Rattle.calls.specs.RedrawLaws.{redraw-fewer, redraw-spent, redraw-taken, redraw-passed}
 

@@ -19,7 +19,7 @@ use Rattle.calls.specs.declared.Turned.{Turned}
 use Rattle.calls.specs.declared.Turned.the-variants as Turns
 use Rattle.calls.specs.declared.Turn.{Turn}
 use Rattle.calls.specs.Call.{Reply, makes, notFinite, outside, Outcome, declined, moved}
-use Rattle.calls.specs.Programs.{interpolated}
+use Rattle.calls.specs.Draws.{interpolated}
 
 -- ---- a turn
 

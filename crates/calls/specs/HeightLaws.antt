@@ -14,7 +14,7 @@ use Rattle.rules.specs.Rules.{within}
 use Rattle.calls.specs.declared.Height.{Height}
 use Rattle.calls.specs.declared.Height.the-variants as Heights
 use Rattle.calls.specs.Call.{Reply, makes, outside, Outcome}
-use Rattle.calls.specs.Programs.{interpolated, drawnHeight}
+use Rattle.calls.specs.Draws.{interpolated, drawnHeight}
 use Rattle.calls.specs.Given.{heightOf}
 
 -- r is the uniform, and h the height that it takes

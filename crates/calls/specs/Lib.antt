@@ -1,8 +1,7 @@
--- Call says how a call goes, Programs what each tree move draws, Moves takes the seven as one, Given has the forms of the code. CallLaws holds of
+-- Call says how a call goes, Draws what several moves draw, Given has the forms of the code. CallLaws holds of
 -- every call; EntryLaws, RedrawLaws, HeightLaws and YieldLaws are for the code of the moves.
 pub mod Call
-pub mod Programs
-pub mod Moves
+pub mod Draws
 pub mod Given
 pub mod EntryLaws
 pub mod CallLaws

@@ -12,7 +12,7 @@ use Rattle.random.specs.DrawLaws.{until-yields, map-yields, below-yields}
 use Rattle.tree.specs.Tree.{tipsOf}
 use Rattle.tree.specs.ScanLaws.{neqb→ne}
 use Rattle.rules.specs.Rules.{internals}
-use Rattle.calls.specs.Programs.{nonRoot, internal}
+use Rattle.calls.specs.Draws.{nonRoot, internal}
 
 pub record NonRoot (n root k : ℕ) : Type 0 where
   pub node : k < n

@@ -7,7 +7,7 @@ ghost use Rattle.random.specs.Draw.{pick, drawnNumber};
 ghost use Rattle.tree.specs.Given.{treeOf};
 ghost use Rattle.rules.specs.Rules.{within};
 ghost use Rattle.calls.specs.Call.{checked};
-ghost use Rattle.calls.specs.Programs.{nonRoot, internal, scaler, tuned};
+ghost use Rattle.calls.specs.Draws.{nonRoot, internal, scaler, tuned};
 ghost use Rattle.calls.specs.Given.{turnedBack, answeredOf, heightOf};
 use answer::Answer;
 use answer::Moved;

@@ -28,7 +28,7 @@ use Rattle.rules.specs.Moves.{Reversible}
 use Rattle.reversal.specs.Reversal.{reversal}
 use Rattle.calls.specs.Call.{Reply, makes, notFinite, outside, Ending, refused, given, ended, checked, callOf, Outcome, calledOn, leaves, treeCall}
 use Rattle.calls.specs.Call as Call
-use Rattle.calls.specs.Moves.{Move, limits, program, moveCall}
+use Rattle.moves.specs.Moves.{Move, limits, program, moveCall}
 use Rattle.calls.specs.EntryLaws.{Passed}
 use Rattle.calls.specs.CallLaws.{call-given, call-steps, call-within, call-larger, call-enough, call-refused}
 use Rattle.moves.specs.Explained.{Admits, Admitted, Declined, Overflows, Strays, Explained, is-moved, is-declined, is-infinite, is-outside}

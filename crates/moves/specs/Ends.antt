@@ -13,7 +13,7 @@ use Rattle.rules.specs.Moves as Reversibles
 use Rattle.rules.specs.Moves.{Reversible, Choice, Makes}
 use Rattle.reversal.specs.Reversed.{Reversed}
 use Rattle.calls.specs.Call.{Called}
-use Rattle.calls.specs.Moves.{Move, nodeHeight, subtreeSlide, narrowExchange, wideExchange, wilsonBalding}
+use Rattle.moves.specs.Moves.{Move, nodeHeight, subtreeSlide, narrowExchange, wideExchange, wilsonBalding}
 
 -- the tree that a call leaves, with a root
 abbrev pub treeAfter : Called → ℕ → Tree

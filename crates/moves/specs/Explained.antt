@@ -18,8 +18,9 @@ use Rattle.rules.specs.Rules.{oneInternal, floor, within}
 use Rattle.rules.specs.Moves as Reversibles
 use Rattle.rules.specs.Moves.{Reversible, Choice, Makes}
 use Rattle.calls.specs.Call.{Reply, makes, notFinite, outside, Outcome, declined, moved}
-use Rattle.calls.specs.Programs.{scaler, interpolated, slideHeight, overflows}
-use Rattle.calls.specs.Moves.{Move, nodeHeight, subtreeSlide, narrowExchange, wideExchange, wilsonBalding, rootScale, treeScale}
+use Rattle.calls.specs.Draws.{scaler, interpolated}
+use Rattle.moves.specs.Programs.{slideHeight, overflows}
+use Rattle.moves.specs.Moves.{Move, nodeHeight, subtreeSlide, narrowExchange, wideExchange, wilsonBalding, rootScale, treeScale}
 
 -- ---- what is drawn
 

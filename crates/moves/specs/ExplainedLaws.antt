@@ -22,9 +22,10 @@ use Rattle.tree.specs.ScanLaws.{neqb→ne}
 use Rattle.rules.specs.Rules as Rules
 use Rattle.rules.specs.Rules.{oneInternal, floor, within}
 use Rattle.calls.specs.Call.{Reply, makes, notFinite, outside, Outcome, declined, moved}
-use Rattle.calls.specs.Programs as Programs
-use Rattle.calls.specs.Programs.{nonRoot, internal, least, slidable, slideHeight, overflows, wilsons}
-use Rattle.calls.specs.Moves.{Move, nodeHeight, subtreeSlide, narrowExchange, wideExchange, wilsonBalding, rootScale, treeScale, limits, program}
+use Rattle.moves.specs.Programs as Programs
+use Rattle.calls.specs.Draws.{nonRoot, internal, least}
+use Rattle.moves.specs.Programs.{slidable, slideHeight, overflows, wilsons}
+use Rattle.moves.specs.Moves.{Move, nodeHeight, subtreeSlide, narrowExchange, wideExchange, wilsonBalding, rootScale, treeScale, limits, program}
 use Rattle.calls.specs.YieldLaws.{NonRoot, Internal, non-root-yields, internal-yields}
 use Rattle.moves.specs.Explained.{Factor, HeightNode, WilsonNodes, Explained, is-moved, is-declined, is-infinite, is-outside}
 use Rattle.moves.specs.StepLaws.{cond-holds, cond-yields, number-yields, factor-yields, height-yields}

@@ -1,5 +1,7 @@
--- What the calls of the seven tree moves come from, and the demands on them. Explained and Ends are definitions: what a call's program may end in,
+-- Programs says what each tree move draws, and Moves takes the seven as one. Explained and Ends are definitions too: what a call's program may end in,
 -- move by move, and the words of the demands. Demands has the theorems; the files whose names end in Laws lead to them.
+pub mod Programs
+pub mod Moves
 pub mod Explained
 pub mod StepLaws
 pub mod ExplainedLaws

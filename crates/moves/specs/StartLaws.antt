@@ -10,8 +10,9 @@ use Rattle.random.specs.UniformLaws.{UnitFraction}
 use Rattle.random.specs.DrawLaws.{return-yields, bind-yields, uniform-yields}
 use Rattle.tree.specs.Tree.{Tree, nodesOf}
 use Rattle.calls.specs.Call.{Reply, makes, given}
-use Rattle.calls.specs.Programs.{nonRoot, Start, slideStart}
-use Rattle.calls.specs.Moves.{startCall}
+use Rattle.calls.specs.Draws.{nonRoot}
+use Rattle.moves.specs.Programs.{Start, slideStart}
+use Rattle.moves.specs.Moves.{startCall}
 use Rattle.calls.specs.YieldLaws.{NonRoot, non-root-yields}
 use Rattle.calls.specs.CallLaws.{call-given}
 use Rattle.moves.specs.StepLaws.{number-yields}

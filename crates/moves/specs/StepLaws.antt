@@ -10,7 +10,7 @@ use Rattle.random.specs.UniformLaws.{UnitFraction}
 use Rattle.random.specs.DrawLaws.{return-yields, draws-yields, bind-yields, uniform-yields}
 use Rattle.rules.specs.Rules.{within}
 use Rattle.calls.specs.Call.{Reply, makes, outside, Outcome}
-use Rattle.calls.specs.Programs.{scaler, interpolated, drawnHeight}
+use Rattle.calls.specs.Draws.{scaler, interpolated, drawnHeight}
 use Rattle.moves.specs.Explained.{Factor, Between}
 
 -- a property of one of two, from what the test says of each

@@ -13,7 +13,8 @@ use Rattle.tree.specs.Tree.{Tree, nodesOf, parent, height}
 use Rattle.tree.specs.Valid.{Valid}
 use Rattle.tree.specs.Given.{treeOf, datesIn}
 use Rattle.calls.specs.declared.Turned.the-variants as Turns
-use Rattle.calls.specs.Programs.{nonRoot, wilsonBalding}
+use Rattle.calls.specs.Draws.{nonRoot}
+use Rattle.moves.specs.Programs.{wilsonBalding}
 use Rattle.calls.specs.Given.{After, after, turnOf}
 use Rattle.calls.specs.YieldLaws.{non-root-yields}
 use Rattle.grafts.specs.Given.{Regrafts}

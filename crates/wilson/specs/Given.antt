@@ -12,7 +12,7 @@ use Rattle.tree.specs.Given.{treeOf}
 use Rattle.rules.specs.Rules.{hosts, newRange, oldRange, wilsonDeclines}
 use Rattle.calls.specs.declared.Height.{Height}
 use Rattle.calls.specs.Call.{Reply, makes, Outcome, declined}
-use Rattle.calls.specs.Programs.{wilsonHeight}
+use Rattle.moves.specs.Programs.{wilsonHeight}
 use Rattle.calls.specs.Given.{heightOf}
 use Rattle.grafts.specs.Given.{Regrafts}
 use Rattle.wilson.specs.declared.Ranges.{Ranges}

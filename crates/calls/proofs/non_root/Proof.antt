@@ -1,7 +1,7 @@
 -- `calls::non_root` meets its contract. Assumes nothing.
 use mathlib.Core.Path.{_≡_}
 use Rattle.random.specs.Draw.{pick}
-use Rattle.calls.specs.Programs.{nonRoot}
+use Rattle.calls.specs.Draws.{nonRoot}
 use borrow.Author.Needs.{needs}
 use Rattle.calls.proofs.DrawnLaws.{nonRootLaws}
 use Rattle.calls.proofs.non_root.Statement.{statement}

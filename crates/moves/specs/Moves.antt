@@ -6,9 +6,10 @@ use lib.Ieee.{Float}
 use Rattle.random.specs.declared.Random.{Random}
 use Rattle.random.specs.Draw.{Draw}
 use Rattle.tree.specs.Tree.{Tree}
 use Rattle.calls.specs.Call.{Reply, Outcome, Called, Ending, callOf, treeCall}
-use Rattle.calls.specs.Programs as Programs
-use Rattle.calls.specs.Programs.{tuned, slidable, Start}
+use Rattle.calls.specs.Draws.{tuned}
+use Rattle.moves.specs.Programs as Programs
+use Rattle.moves.specs.Programs.{slidable, Start}
 
 -- a slide with its node and step, a scale with its tuning
 pub data Move : Type 0 where

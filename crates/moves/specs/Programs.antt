@@ -1,60 +1,21 @@
 -- What each tree move draws, in the order of "the Rust functions of the same names", and what it makes of it: the draws, the test of what is
 -- declined, and the rule of rules/Rules. Definitions only. Assumes nothing.
 use mathlib.Core.Bool.{Bool, not, _&&_, cond}
-use Prim.Native.Nat.{ℕ, zero, suc, _+_}
+use Prim.Native.Nat.{ℕ}
 use lib.Dec.{ltb, eqb}
 use lib.ListN.{length}
-use lib.Ieee.{Float, binary64, ofBits, add, sub, mul, div}
+use lib.Ieee.{Float, binary64, add, mul}
 use lib.Ieee.Scale.{finite}
 use Rattle.answer.specs.declared.Ratio.the-variants.{Even}
-use Rattle.random.specs.Draw.{Number, until, map, below, Draw, return, draw, _>>=_, uniform, coin}
+use Rattle.random.specs.Draw.{until, below, Draw, return, draw, _>>=_, uniform, coin}
 use Rattle.real.specs.Real.{maxOf}
-use Rattle.tree.specs.Tree.{Tree, nodesOf, tipsOf, inner, parent, height, sibling}
+use Rattle.tree.specs.Tree.{Tree, nodesOf, inner, parent, height, sibling}
 use Rattle.rules.specs.Rules as Rules
-use Rattle.rules.specs.Rules.{internals, oneInternal, floor, within}
-use Rattle.calls.specs.Call.{Reply, makes, notFinite, outside, Outcome, declined, moved}
-
--- ---- for several moves
-
--- "a non-root node"
-unfoldable pub nonRoot : ℕ → ℕ → Number
-nonRoot n root = until (λ k. not (eqb k root)) (below n)
-
--- "an internal node"
-unfoldable pub internal : ℕ → Number
-internal n = map (λ k. tipsOf n + k) (below (internals n))
-
-abbrev pub one : Float
-one = ofBits binary64 0x3ff0_0000_0000_0000
-
--- "`scaler` is s + u·(1/s − s) with u a uniform, each operation rounded once in the order written"
-unfoldable pub scaler : Float → Float → Float
-scaler s u = add binary64 s (mul binary64 u (sub binary64 (div binary64 one s) s))
-
--- a height in an interval is lower + u·(upper − lower), rounded likewise
-unfoldable pub interpolated : Float → Float → Float → Float
-interpolated lower upper u = add binary64 lower (mul binary64 u (sub binary64 upper lower))
-
--- node k takes a height that is drawn from lower to upper; 8 where "a drawn height is outside its interval"
-unfoldable pub drawnHeight : ℕ → Float → Float → (Float → Outcome) → Draw (Reply Outcome)
-drawnHeight k lower upper make = do
-  u ← uniform
-  let x = interpolated lower upper u in return (cond (within lower x upper) (makes (make x)) (outside k))
-
--- the lowest number below m that passes, or m where none does
-unfoldable pub least : (ℕ → Bool) → ℕ → ℕ
-least test zero = zero
-least test (suc m) = let k = least test m in cond (ltb k m) k (cond (test m) m (suc m))
+use Rattle.rules.specs.Rules.{oneInternal, floor}
+use Rattle.calls.specs.Call.{Reply, makes, notFinite, Outcome, declined, moved}
+use Rattle.calls.specs.Draws.{nonRoot, internal, scaler, drawnHeight, least}
 
 -- ---- limits
-
--- 1e-8
-abbrev pub leastTuning : Float
-leastTuning = ofBits binary64 0x3e45_798e_e230_8c3a
-
--- "tuning 1e-8 to 1"
-abbrev pub tuned : Float → Bool
-tuned s = within leastTuning s one
 
 -- "slide node below n and not the root; step [...] finite"
 abbrev pub slidable : Tree → ℕ → Float → Bool
