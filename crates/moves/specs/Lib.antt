@@ -1,5 +1,5 @@
--- Programs says what each tree move draws, and Moves takes the seven as one. Explained and Ends are definitions too: what a call's program may end in,
--- move by move, and the words of the demands. Demands has the theorems; the files whose names end in Laws lead to them.
+-- Programs says what each tree move draws, and Moves takes the seven as one; Rows are calls on tree F. Explained and Ends are definitions too: what a
+-- call's program may end in, move by move, and the words of the demands. Demands has the theorems; the files whose names end in Laws lead to them.
 pub mod Programs
 pub mod Moves
 pub mod Explained
@@ -7,4 +7,5 @@ pub mod StepLaws
 pub mod ExplainedLaws
 pub mod Ends
 pub mod StartLaws
+pub mod Rows
 pub mod Demands
