@@ -7,3 +7,4 @@ pub mod ShapeLaws
 pub mod AcceptedLaws
 pub mod ValidatedLaws
 pub mod TipLaws
+pub mod RootLaws

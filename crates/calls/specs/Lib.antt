@@ -1,5 +1,5 @@
 -- Call says how a call goes, Draws what several moves draw, Given has the forms of the code. CallLaws holds of
--- every call; EntryLaws, RedrawLaws, HeightLaws and YieldLaws are for the code of the moves.
+-- every call; EntryLaws, RedrawLaws, HeightLaws, LeastLaws and YieldLaws are for the code of the moves.
 pub mod Call
 pub mod Draws
 pub mod Given
@@ -7,4 +7,5 @@ pub mod EntryLaws
 pub mod CallLaws
 pub mod RedrawLaws
 pub mod HeightLaws
+pub mod LeastLaws
 pub mod YieldLaws

@@ -3,14 +3,13 @@
 use mathlib.Core.Path.{_≡_, refl, sym}
 use mathlib.Core.Logic.{inl, inr}
 use mathlib.Core.Bool.{Bool, true, false, true≢false, not, _&&_, cond, and-eq-true-iff}
-use Prim.Native.Nat.{ℕ, zero, suc, _≤_, _<_}
+use Prim.Native.Nat.{ℕ, _<_}
 use native.Mathlib.Omega.{arith}
 use lib.Dec.{T, eqb, ltb}
 use lib.ListN.{length}
 use lib.Ieee.{Float}
 use lib.Ieee.Scale.{finite}
-use native.Mathlib.Decide.{ℕ-discrete, decLe}
-use borrow.Author.Tests.{lt-ltb, le-ltb, ltb-true}
+use borrow.Author.Tests.{ltb-true}
 use Rattle.answer.specs.declared.Ratio.the-variants.{Even}
 use Rattle.random.specs.Draw.{until, below, coin, run}
 use Rattle.random.specs.Lawful.{Yields}
@@ -26,6 +25,7 @@ use Rattle.moves.specs.Programs as Programs
 use Rattle.calls.specs.Draws.{nonRoot, internal, least}
 use Rattle.moves.specs.Programs.{slidable, slideHeight, overflows, wilsons}
 use Rattle.moves.specs.Moves.{Move, nodeHeight, subtreeSlide, narrowExchange, wideExchange, wilsonBalding, rootScale, treeScale, limits, program}
+use Rattle.calls.specs.LeastLaws.{least-holds, least-below}
 use Rattle.calls.specs.YieldLaws.{NonRoot, Internal, non-root-yields, internal-yields}
 use Rattle.moves.specs.Explained.{Factor, HeightNode, WilsonNodes, Explained, is-moved, is-declined, is-infinite, is-outside}
 use Rattle.moves.specs.StepLaws.{cond-holds, cond-yields, number-yields, factor-yields, height-yields}
@@ -40,35 +40,6 @@ not-true true e = absurd (true≢false (sym e))
 not-false : (b : Bool) → not b ≡ false → b ≡ true
 not-false true e = refl
 not-false false e = absurd (true≢false e)
-
--- the least number that passes passes, and none below it does
-module _ (test : ℕ → Bool) where
-  least-next : (m : ℕ) → (least test m < m → least test (suc m) ≡ least test m)
-      × (m ≤ least test m → (test m ≡ true → least test (suc m) ≡ m) × (test m ≡ false → least test (suc m) ≡ suc m))
-  unfolding least
-  least-next m = (λ h. rw (lt-ltb (least test m) m h), λ h. ((λ e. rw (le-ltb (least test m) m h, e)), λ e. rw (le-ltb (least test m) m h, e)))
-
-  least-holds : (m : ℕ) → least test m < m → test (least test m) ≡ true
-  least-holds zero h = absurd (omega arith)
-  least-holds (suc m) h = go (decLe m (least test m)) (test m) refl (least-holds m)
-    where
-      go : Dec (m ≤ least test m) → (b : Bool) → test m ≡ b → (least test m < m → test (least test m) ≡ true) → test (least test (suc m)) ≡ true
-      go (no k) b e rest = rw (least-next m .0 (omega arith)) (rest (omega arith))
-      go (yes k) true e rest = rw (least-next m .1 k .0 e) e
-      go (yes k) false e rest = let z = least-next m .1 k .1 e in absurd (omega arith)
-
-  least-below : (m j : ℕ) → j < m → j < least test m → test j ≡ false
-  least-below zero j h k = absurd (omega arith)
-  least-below (suc m) j h k = go (decLe m (least test m)) (test m) refl (least-below m j)
-    where
-      go : Dec (m ≤ least test m) → (b : Bool) → test m ≡ b → (j < m → j < least test m → test j ≡ false) → test j ≡ false
-      go (no l) b e rest = let z = least-next m .0 (omega arith) in rest (omega arith) (omega arith)
-      go (yes l) true e rest = let z = least-next m .1 l .0 e in rest (omega arith) (omega arith)
-      go (yes l) false e rest = last (ℕ-discrete j m) e rest
-        where
-          last : Dec (j ≡ m) → test m ≡ false → (j < m → j < least test m → test j ≡ false) → test j ≡ false
-          last (yes q) e rest = rw q e
-          last (no q) e rest = rest (omega arith) (omega arith)
 
 module _ (t : Tree) (v : Valid (nodesOf (t .pairs)) t) where
   abbrev n : ℕ

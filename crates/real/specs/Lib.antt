@@ -1,4 +1,4 @@
--- The definitions that the contracts of real cite, and the laws of the order of floats and of ages.
+-- The definitions that the contracts of real cite, and the laws of the order of floats, of ages and of products.
 pub mod Real
 pub mod Printed
 pub mod Ages
@@ -6,3 +6,4 @@ pub mod CrossLaws
 pub mod OrderLaws
 pub mod FieldLaws
 pub mod AgeLaws
+pub mod ProductLaws

@@ -1,0 +1,4 @@
+-- The laws that the proofs of heights share: one for each way through a function.
+mod NodeHeightLaws
+mod RootScaleLaws
+mod TreeScaleLaws

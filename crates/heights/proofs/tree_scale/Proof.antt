@@ -1,0 +1,50 @@
+-- `heights::tree_scale` meets its contract. Assumes nothing.
+use borrow.Author.Needs.{needs}
+use Rattle.calls.specs.EntryLaws.{entryLaws}
+use Rattle.heights.proofs.tree_scale.Statement.{statement}
+use Rattle.heights.proofs.tree_scale.Tie as tie
+
+check-tuned-requires : tie.Need-check-tuned-requires
+check-tuned-requires c κs = search (entryLaws, needs)
+
+enum-known-why : tie.Need-enum-known-why
+enum-known-why c = search (entryLaws, needs)
+
+refuse-requires : tie.Need-refuse-requires
+refuse-requires c κs = search (entryLaws, needs)
+
+same-length : tie.Need-same-length
+same-length c = search (entryLaws, needs)
+
+returns : tie.Need-returns
+returns c = search (entryLaws, needs)
+
+enum-told : tie.Need-enum-told
+enum-told c = search (entryLaws, needs)
+
+tree-scale-turn-requires : tie.Need-tree-scale-turn-requires
+tree-scale-turn-requires c κs = search (entryLaws, needs)
+
+answer-requires : tie.Need-answer-requires
+answer-requires c κs = search (entryLaws, needs)
+
+same-length-2 : tie.Need-same-length-2
+same-length-2 c = search (entryLaws, needs)
+
+returns-2 : tie.Need-returns-2
+returns-2 c = search (entryLaws, needs)
+
+pub tree-scale-spec : {M : Type 1} → statement M
+tree-scale-spec =
+    tie.close
+    (tie.spec
+    check-tuned-requires
+    enum-known-why
+    refuse-requires
+    same-length
+    returns
+    enum-told
+    tree-scale-turn-requires
+    answer-requires
+    same-length-2
+    returns-2)

@@ -1,0 +1,339 @@
+// NodeHeight, RootScale and TreeScale of mcmc/moves.rs: the moves that change heights and nothing else of a tree. Each has a turn, which takes a
+// tree in order, and the call of the same name, which takes whatever is lent and refuses what is not in order. Assumes nothing.
+ghost use mathlib.Core.Path.{_≡_};
+ghost use Prim.Native.Nat.{_≤_, _<_};
+ghost use lib.ListN.{length};
+ghost use Rattle.random.specs.Draw.{pick, run, drawnNumber};
+ghost use Rattle.tree.specs.Tree.{nodesOf};
+ghost use Rattle.tree.specs.Valid.{Valid};
+ghost use Rattle.tree.specs.Given.{treeOf};
+ghost use Rattle.rules.specs.Rules.{floor, scaledTo, treeScaleRatio};
+ghost use Rattle.calls.specs.Call.{checked, called};
+ghost use Rattle.moves.specs.Programs as Programs;
+ghost use Rattle.calls.specs.Draws.{least, tuned};
+ghost use Rattle.moves.specs.Programs.{overflows};
+ghost use Rattle.moves.specs.Moves.{nodeHeight, rootScale, treeScale, moveCall};
+ghost use Rattle.calls.specs.Given.{after, turnOf};
+ghost use Rattle.heights.specs.Given.{nonRootInternal, childrenOf, placing, heightsOf};
+use answer::Ratio;
+use calls::Answered;
+use calls::Height;
+use calls::Turn;
+use calls::Turned;
+use random::DrawnNumber;
+use random::Random;
+use random::Supply;
+use tree::Verdict;
+
+// An internal node of n other than the root.
+fn non_root_internal(s: Supply, n: usize, root: usize) -> DrawnNumber
+    requires { ⌜ n ≤ 4095 ⌝ }
+    ensures { λ r. ⌜ r ≡ drawnNumber s (pick (nonRootInternal n root) s) ⌝ }
+{
+    let mut supply = s;
+    loop {
+        let d = calls::internal(supply, n);
+        let next = d.supply;
+        if d.ok {
+            if d.value == root {
+                supply = next;
+            } else {
+                return DrawnNumber {
+                    ok: true,
+                    value: d.value,
+                    supply: next,
+                };
+            }
+        } else {
+            return DrawnNumber {
+                ok: false,
+                value: 0,
+                supply: s,
+            };
+        }
+    }
+}
+
+// The height of the taller child of a node.
+fn floor(pairs: &[u16], heights: &[f64], k: usize) -> f64
+    ensures { λ r. ⌜ r ≡ floor (childrenOf (now (pairs .entry)) (now (heights .entry))) k ⌝ }
+{
+    let a = reads::height(heights, reads::first(pairs, k));
+    let b = reads::height(heights, reads::second(pairs, k));
+    real::max(a, b)
+}
+
+// Node k takes a height from its taller child's to its parent's, drawn from the supply `between`; s is the turn's.
+fn place(
+    pairs: &[u16],
+    parents: &[u16],
+    heights: &mut [f64],
+    root: usize,
+    k: usize,
+    between: Supply,
+    s: Supply,
+) -> Turn
+    requires { ⌜ k < length (now heights) ⌝ }
+    ensures { λ r. ⌜ after r (now (pairs .entry)) (now (parents .entry)) (now (heights .exit)) ≡ turnOf (treeOf (now (pairs .entry)) (now (parents .entry)) (now (heights .entry)) root) s (run (placing (treeOf (now (pairs .entry)) (now (parents .entry)) (now (heights .entry)) root) k) between) ⌝ }
+{
+    let u = between.uniform();
+    let last = u.supply;
+    if u.ok {
+        let lower = floor(pairs, heights, k);
+        let upper = reads::height(heights, reads::parent(parents, k));
+        match calls::interpolate(lower, upper, u.value) {
+            Height::At(x) => {
+                edits::set_height(heights, k, x);
+                return Turn {
+                    turned: Turned::Moved(root, Ratio::Even),
+                    supply: last,
+                };
+            }
+            Height::Outside => {
+                return Turn {
+                    turned: Turned::Outside(k),
+                    supply: last,
+                };
+            }
+        }
+    }
+    Turn {
+        turned: Turned::Spent,
+        supply: s,
+    }
+}
+
+// An internal node other than the root takes a height from its taller child's to its parent's.
+pub fn node_height_turn(
+    pairs: &[u16],
+    parents: &[u16],
+    heights: &mut [f64],
+    root: usize,
+    s: Supply,
+) -> Turn
+    requires { ⌜ Valid (nodesOf (now pairs)) (treeOf (now pairs) (now parents) (now heights) root) ⌝ }
+    ensures { λ r. ⌜ after r (now (pairs .entry)) (now (parents .entry)) (now (heights .exit)) ≡ turnOf (treeOf (now (pairs .entry)) (now (parents .entry)) (now (heights .entry)) root) s (run (Programs.nodeHeight (treeOf (now (pairs .entry)) (now (parents .entry)) (now (heights .entry)) root)) s) ⌝ }
+{
+    let n = pairs.len() / 2;
+    if n - (n + 1) / 2 == 1 {
+        return Turn {
+            turned: Turned::Declined,
+            supply: s,
+        };
+    }
+    let d = non_root_internal(s, n, root);
+    let between = d.supply;
+    if d.ok {
+        return place(pairs, parents, heights, root, d.value, between, s);
+    }
+    Turn {
+        turned: Turned::Spent,
+        supply: s,
+    }
+}
+
+// NodeHeight, by at most `allowance` draws.
+pub fn node_height(
+    pairs: &[u16],
+    parents: &[u16],
+    heights: &mut [f64],
+    root: usize,
+    random: Random,
+    allowance: u32,
+) -> Answered
+    ensures { λ r. ⌜ called (r .answer) (r .random) (now (pairs .entry)) (now (parents .entry)) (now (heights .exit)) ≡ moveCall nodeHeight (treeOf (now (pairs .entry)) (now (parents .entry)) (now (heights .entry)) root) random allowance ⌝ }
+{
+    match calls::check(pairs, parents, heights, root, true, allowance) {
+        Verdict::Refused(why) => {
+            return calls::refuse(why, random);
+        }
+        Verdict::Fine => {
+            let s = Supply {
+                random,
+                left: allowance,
+            };
+            let turn = node_height_turn(pairs, parents, heights, root, s);
+            return calls::answer(turn, random, allowance);
+        }
+    }
+}
+
+// Whether the call of a scale may go on, its tuning being within its limits.
+fn check_tuned(
+    pairs: &[u16],
+    parents: &[u16],
+    heights: &[f64],
+    root: usize,
+    tuning: f64,
+    allowance: u32,
+) -> Verdict
+    ensures { λ r. ⌜ r ≡ checked (tuned tuning) (treeOf (now (pairs .entry)) (now (parents .entry)) (now (heights .entry)) root) allowance ⌝ }
+{
+    let limits = calls::is_tuned(tuning);
+    calls::check(pairs, parents, heights, root, limits, allowance)
+}
+
+// The root's height times a drawn factor; declined where that is under a child.
+pub fn root_scale_turn(
+    pairs: &[u16],
+    parents: &[u16],
+    heights: &mut [f64],
+    root: usize,
+    tuning: f64,
+    s: Supply,
+) -> Turn
+    requires { ⌜ Valid (nodesOf (now pairs)) (treeOf (now pairs) (now parents) (now heights) root) ⌝ }
+    ensures { λ r. ⌜ after r (now (pairs .entry)) (now (parents .entry)) (now (heights .exit)) ≡ turnOf (treeOf (now (pairs .entry)) (now (parents .entry)) (now (heights .entry)) root) s (run (Programs.rootScale tuning (treeOf (now (pairs .entry)) (now (parents .entry)) (now (heights .entry)) root)) s) ⌝ }
+{
+    let u = s.uniform();
+    let next = u.supply;
+    if u.ok {
+        let f = calls::scaler(tuning, u.value);
+        let x = reads::height(heights, root) * f;
+        if real::is_finite(x) {
+            if x < floor(pairs, heights, root) {
+                return Turn {
+                    turned: Turned::Declined,
+                    supply: next,
+                };
+            }
+            edits::set_height(heights, root, x);
+            return Turn {
+                turned: Turned::Moved(root, Ratio::Power(f, -1)),
+                supply: next,
+            };
+        }
+        return Turn {
+            turned: Turned::NotFinite(root),
+            supply: next,
+        };
+    }
+    Turn {
+        turned: Turned::Spent,
+        supply: s,
+    }
+}
+
+// RootScale with a tuning from 1e-8 to 1, by at most `allowance` draws.
+pub fn root_scale(
+    pairs: &[u16],
+    parents: &[u16],
+    heights: &mut [f64],
+    root: usize,
+    tuning: f64,
+    random: Random,
+    allowance: u32,
+) -> Answered
+    ensures { λ r. ⌜ called (r .answer) (r .random) (now (pairs .entry)) (now (parents .entry)) (now (heights .exit)) ≡ moveCall (rootScale tuning) (treeOf (now (pairs .entry)) (now (parents .entry)) (now (heights .entry)) root) random allowance ⌝ }
+{
+    match check_tuned(pairs, parents, heights, root, tuning, allowance) {
+        Verdict::Refused(why) => {
+            return calls::refuse(why, random);
+        }
+        Verdict::Fine => {
+            let s = Supply {
+                random,
+                left: allowance,
+            };
+            let turn = root_scale_turn(pairs, parents, heights, root, tuning, s);
+            return calls::answer(turn, random, allowance);
+        }
+    }
+}
+
+// The lowest internal node whose height times f is not finite, or the number of nodes where none is.
+fn lowest_overflow(heights: &[f64], f: f64) -> usize
+    ensures { λ r. ⌜ r ≡ least (overflows (length (now (heights .entry))) (heightsOf (now (heights .entry))) f) (length (now (heights .entry))) ⌝ }
+{
+    let mut k = heights.len() / 2 + 1;
+    while k < heights.len() {
+        if real::is_finite(heights[k] * f) {
+            k += 1;
+        } else {
+            return k;
+        }
+    }
+    heights.len()
+}
+
+// Every internal height times f.
+fn scale_heights(heights: &mut [f64], f: f64)
+    ensures { λ _. ⌜ now (heights .exit) ≡ scaledTo (length (now (heights .entry))) (heightsOf (now (heights .entry))) f (length (now (heights .entry))) .heights ⌝ }
+{
+    let n = heights.len();
+    let mut k = n / 2 + 1;
+    while k < n {
+        heights[k] = heights[k] * f;
+        k += 1;
+    }
+}
+
+// The factor to the power of the internal nodes of n less 2.
+fn tree_scale_ratio(n: usize, f: f64) -> Ratio
+    requires { ⌜ n ≤ 4095 ⌝ }
+    ensures { λ r. ⌜ r ≡ treeScaleRatio n f ⌝ }
+{
+    Ratio::Power(f, (n - (n + 1) / 2) as i32 - 2)
+}
+
+// Every internal height times a drawn factor. No height is above the root's, so that every product is finite where the root's is.
+pub fn tree_scale_turn(
+    pairs: &[u16],
+    parents: &[u16],
+    heights: &mut [f64],
+    root: usize,
+    tuning: f64,
+    s: Supply,
+) -> Turn
+    requires { ⌜ Valid (nodesOf (now pairs)) (treeOf (now pairs) (now parents) (now heights) root) ⌝ }
+    ensures { λ r. ⌜ after r (now (pairs .entry)) (now (parents .entry)) (now (heights .exit)) ≡ turnOf (treeOf (now (pairs .entry)) (now (parents .entry)) (now (heights .entry)) root) s (run (Programs.treeScale tuning (treeOf (now (pairs .entry)) (now (parents .entry)) (now (heights .entry)) root)) s) ⌝ }
+{
+    let u = s.uniform();
+    let next = u.supply;
+    if u.ok {
+        let f = calls::scaler(tuning, u.value);
+        if real::is_finite(reads::height(heights, root) * f) {
+            let ratio = tree_scale_ratio(pairs.len() / 2, f);
+            scale_heights(heights, f);
+            return Turn {
+                turned: Turned::Moved(root, ratio),
+                supply: next,
+            };
+        }
+        return Turn {
+            turned: Turned::NotFinite(lowest_overflow(heights, f)),
+            supply: next,
+        };
+    }
+    Turn {
+        turned: Turned::Spent,
+        supply: s,
+    }
+}
+
+// TreeScale with a tuning from 1e-8 to 1, by at most `allowance` draws.
+pub fn tree_scale(
+    pairs: &[u16],
+    parents: &[u16],
+    heights: &mut [f64],
+    root: usize,
+    tuning: f64,
+    random: Random,
+    allowance: u32,
+) -> Answered
+    ensures { λ r. ⌜ called (r .answer) (r .random) (now (pairs .entry)) (now (parents .entry)) (now (heights .exit)) ≡ moveCall (treeScale tuning) (treeOf (now (pairs .entry)) (now (parents .entry)) (now (heights .entry)) root) random allowance ⌝ }
+{
+    match check_tuned(pairs, parents, heights, root, tuning, allowance) {
+        Verdict::Refused(why) => {
+            return calls::refuse(why, random);
+        }
+        Verdict::Fine => {
+            let s = Supply {
+                random,
+                left: allowance,
+            };
+            let turn = tree_scale_turn(pairs, parents, heights, root, tuning, s);
+            return calls::answer(turn, random, allowance);
+        }
+    }
+}
