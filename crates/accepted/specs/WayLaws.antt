@@ -1,7 +1,8 @@
 -- How far a node is from the root. In order: a valid tree is linked (`valid-linked`) and has as many nodes as pairs (`valid-nodes`); a child is
 -- not the root, and is one step further from it (`under-root`, `first-way`, `second-way`); a node that reaches the root has a way to it, only
 -- one, and one of fewer steps than there are nodes (`way`, `way-only`, `way-short`); the nodes under a node, and their ways (`under-parent`,
--- `under-way`, `under-same`), and that the nodes under the root are those that reach it (`under-reach`, `reach-under`). Assumes nothing.
+-- `under-way`, `under-same`), that the nodes under the root are those that reach it (`under-reach`, `reach-under`), and that nothing above a node is under it
+-- (`not-under`). Assumes nothing.
 use mathlib.Core.Path.{_≡_, refl, sym, ap, _∙_}
 use mathlib.Core.Logic.{_≢_}
 use Prim.Native.Nat.{ℕ, zero, suc, _+_, _-_, _≤_, _<_}
@@ -101,3 +102,12 @@ under-reach (through C d u) r = up d (under-reach u r)
 pub reach-under : (n : ℕ) (t : Tree) → Linked n t → {c : ℕ} → c < n → Reach t c → Under n t c (t .root)
 reach-under n t l C (here e) = rw e itself
 reach-under n t l C (up {k} d r) = through C d (reach-under n t l (l .below k C d .parent-node) r)
+
+-- neither a node's parent nor what that is under is under the node
+pub not-under : {n : ℕ} {t : Tree} → Valid n t → (c : ℕ) → c < n → c ≢ t .root → {k : ℕ} → Under n t (parent t c) k → Under n t k c → ⊥
+not-under v c C r a b =
+    let w = way (v .joined c C) in
+    let p = under-way b (w .1) in
+    let q = under-way a (p .2) in
+    let z : w .0 ≡ suc (q .0) = way-only (w .1) (climbs r (q .2)) in
+    omega arith

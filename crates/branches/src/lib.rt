@@ -1,10 +1,9 @@
 // The branches that SubtreeSlide looks for: `crossing`, `nth_crossing` and the climb of rove's mcmc/moves.rs over lent slices. Nothing is asked of
 // the slices: each index is tested where it is followed, and every walk has a budget. Assumes nothing.
 ghost use mathlib.Core.Path.{_≡_};
-ghost use mathlib.Core.List.{[]};
 ghost use Prim.Native.Nat.{_+_, _^_, _<_};
 ghost use Rattle.tree.specs.Tree.{nodesOf};
-ghost use Rattle.tree.specs.Given.{treeOf, datesIn};
+ghost use Rattle.tree.specs.Given.{kinIn, datesIn};
 ghost use Rattle.rules.specs.Rules.{climb};
 ghost use Rattle.branches.specs.Walk.{meet, walk, counted, picked};
 
@@ -48,7 +47,7 @@ fn crossing(
     depth: usize,
 ) -> Walk
     requires { ⌜ w .met + w .left < 2 ^ 64 ⌝ }
-    ensures { λ r. ⌜ r ≡ walk depth (nodesOf (now (pairs .entry))) (treeOf (now (pairs .entry)) [] (now (heights .entry)) 0) x index k w ⌝ }
+    ensures { λ r. ⌜ r ≡ walk depth (nodesOf (now (pairs .entry))) (kinIn (now (pairs .entry)) (now (heights .entry))) x index k w ⌝ }
 {
     if depth == 0 {
         return w;
@@ -79,7 +78,7 @@ fn crossing(
 
 // How many branches under k, or k's own, span the height x.
 pub fn count(pairs: &[u16], heights: &[f64], x: f64, k: usize) -> usize
-    ensures { λ r. ⌜ r ≡ counted (treeOf (now (pairs .entry)) [] (now (heights .entry)) 0) x k ⌝ }
+    ensures { λ r. ⌜ r ≡ counted (kinIn (now (pairs .entry)) (now (heights .entry))) x k ⌝ }
 {
     let n = pairs.len() / 2;
     let w = crossing(
@@ -100,7 +99,7 @@ pub fn count(pairs: &[u16], heights: &[f64], x: f64, k: usize) -> usize
 
 // The one of them that is numbered index, left first.
 pub fn branch(pairs: &[u16], heights: &[f64], x: f64, k: usize, index: usize) -> usize
-    ensures { λ r. ⌜ r ≡ picked (treeOf (now (pairs .entry)) [] (now (heights .entry)) 0) x k index ⌝ }
+    ensures { λ r. ⌜ r ≡ picked (kinIn (now (pairs .entry)) (now (heights .entry))) x k index ⌝ }
 {
     let n = pairs.len() / 2;
     let w = crossing(

@@ -16,10 +16,11 @@ use Rattle.random.specs.declared.Supply.{Supply}
 use Rattle.random.specs.declared.DrawnNumber.{DrawnNumber}
 use Rattle.random.specs.Draw.{pick, drawnNumber}
 use Rattle.tree.specs.Tree.{Tree, inner, firstIn, secondIn, height}
+use Rattle.tree.specs.Given.{kinIn}
 use Rattle.rules.specs.Rules.{oneInternal, grand, grands, narrowDeclines}
 use Rattle.calls.specs.Draws.{internal}
 use Rattle.calls.specs.RedrawLaws.{redraw-fewer, redraw-spent, redraw-taken, redraw-passed}
-use Rattle.exchanges.specs.Given.{grandparent, kinIn, pairsIn, tallerIn, sideIn, uncleIn}
+use Rattle.exchanges.specs.Given.{grandparent, pairsIn, tallerIn, sideIn, uncleIn}
 
 -- ---- the test
 

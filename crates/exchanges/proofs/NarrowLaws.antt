@@ -15,7 +15,7 @@ use Rattle.random.specs.DrawLaws.{draw-got, draw-spent, bind-got, bind-spent, u
 use Rattle.random.specs.SupplyLaws.{number-got, number-spent, side-got, side-spent}
 use Rattle.tree.specs.Tree.{Tree, nodesOf, inner, first, second, height}
 use Rattle.tree.specs.Valid.{Valid, Inner}
-use Rattle.tree.specs.Given.{treeOf}
+use Rattle.tree.specs.Given.{treeOf, kinIn}
 use Rattle.edits.specs.Slots.{swap, bare}
 use Rattle.edits.specs.Needs.{Exchanges}
 use Rattle.edits.specs.NeedsLaws.{valid-exchanges, swap-whole}
@@ -26,7 +26,7 @@ use Rattle.calls.specs.Draws.{internal}
 use Rattle.moves.specs.Programs.{narrowExchange}
 use Rattle.calls.specs.Given.{After, after, turnOf}
 use Rattle.calls.specs.YieldLaws.{Internal, internal-yields}
-use Rattle.exchanges.specs.Given.{grandparent, kinIn, pairsIn, tallerIn, sideIn, uncleIn, narrowUnder, narrowTurn, Under, Narrows}
+use Rattle.exchanges.specs.Given.{grandparent, pairsIn, tallerIn, sideIn, uncleIn, narrowUnder, narrowTurn, Under, Narrows}
 
 -- ---- what is read
 

@@ -8,7 +8,7 @@ use lib.Ieee.{Float}
 use Rattle.random.specs.declared.Supply.{Supply}
 use Rattle.random.specs.Draw.{Number, until, Draw, return, _>>=_, coin, got}
 use Rattle.tree.specs.Tree.{Tree}
-use Rattle.tree.specs.Given.{treeOf}
+use Rattle.tree.specs.Given.{kinIn}
 use Rattle.tree.specs.Valid.{Valid}
 use Rattle.rules.specs.Rules.{grand, taller, uncle, sideOf, narrowDeclines, narrowed, narrowRatio}
 use Rattle.calls.specs.Call.{Reply, makes, Outcome, declined, moved}
@@ -26,10 +26,6 @@ unfoldable pub grandparent : ℕ → Tree → Number
 grandparent n t = until (grand n t) (internal n)
 
 -- ---- what is read of a tree
-
--- its pairs and heights
-abbrev pub kinIn : List ℕ → List Float → Tree
-kinIn pairs hs = treeOf pairs [] hs 0
 
 -- its pairs
 abbrev pub pairsIn : List ℕ → Tree

@@ -18,7 +18,7 @@ use Rattle.random.specs.SupplyLaws.{number-got, number-spent}
 use Rattle.real.specs.Real.{maxOf}
 use Rattle.tree.specs.Tree.{Tree, nodesOf, tipsOf, firstIn, secondIn, parent, height}
 use Rattle.tree.specs.Valid.{Valid}
-use Rattle.tree.specs.Given.{treeOf}
+use Rattle.tree.specs.Given.{treeOf, kinIn}
 use Rattle.edits.specs.Slots.{setHeight}
 use Rattle.edits.specs.NeedsLaws.{valid-height}
 use Rattle.rules.specs.Rules as Rules
@@ -32,7 +32,7 @@ use Rattle.moves.specs.Programs.{nodeHeight}
 use Rattle.calls.specs.Given.{After, afterOn, turnOf, heightOf}
 use Rattle.calls.specs.RedrawLaws.{redraw-fewer, redraw-spent, redraw-taken, redraw-passed}
 use Rattle.calls.specs.YieldLaws.{Internal, internal-yields}
-use Rattle.heights.specs.Given.{nonRootInternal, childrenOf, placing}
+use Rattle.heights.specs.Given.{nonRootInternal, placing}
 use Rattle.calls.specs.HeightLaws.{height-spent, height-inside, height-outside}
 
 -- ---- an internal node other than the root
@@ -60,7 +60,7 @@ pub ruleset nonRootInternalLaws = (non-root-internal-spent, non-root-internal-ta
 -- ---- the taller child's height
 
 pub floor-is : (pairs : List ℕ) (heights : List Float) (k i j : ℕ) → i ≡ firstIn pairs k → j ≡ secondIn pairs k → (a b r : Float) → a ≡ getD heights i nan
-    → b ≡ getD heights j nan → r ≡ maxOf a b → r ≡ floor (childrenOf pairs heights) k
+    → b ≡ getD heights j nan → r ≡ maxOf a b → r ≡ floor (kinIn pairs heights) k
 unfolding height
 floor-is pairs heights k i j ei ej a b r ea eb er = rw (er, ea, eb, ei, ej)
 
@@ -82,7 +82,7 @@ module _ (pairs parents : List ℕ) (heights : List Float) (root k : ℕ) (betwe
     place-spent f = rw (height-spent k (floor here k) (height here (parent here k)) make between u e f)
 
     -- y is the height, from lower to upper
-    module _ (f : u .ok ≡ true) (lower : Float) (el : lower ≡ floor (childrenOf pairs heights) k) (p : ℕ) (ep : p ≡ getD parents k 0) (upper : Float)
+    module _ (f : u .ok ≡ true) (lower : Float) (el : lower ≡ floor (kinIn pairs heights) k) (p : ℕ) (ep : p ≡ getD parents k 0) (upper : Float)
         (eh : upper ≡ getD heights p nan) (y : Height) (ey : y ≡ heightOf lower upper (u .value)) where
       -- it is the one of the definition
       shown : y ≡ heightOf (floor here k) (height here (parent here k)) (u .value)

@@ -15,7 +15,7 @@ use Rattle.random.specs.DrawLaws.{bind-got, bind-spent}
 use Rattle.tree.specs.declared.Verdict.{Verdict}
 use Rattle.tree.specs.Tree.{Tree, nodesOf, height}
 use Rattle.tree.specs.Valid.{Valid}
-use Rattle.tree.specs.Given.{treeOf}
+use Rattle.tree.specs.Given.{treeOf, kinIn}
 use Rattle.edits.specs.Slots.{setHeight}
 use Rattle.edits.specs.NeedsLaws.{valid-height}
 use Rattle.rules.specs.Rules.{floor, rootScaleDeclines}
@@ -24,7 +24,6 @@ use Rattle.calls.specs.Call.{checked}
 use Rattle.calls.specs.Draws.{scaler, tuned}
 use Rattle.moves.specs.Programs.{rootScale}
 use Rattle.calls.specs.Given.{afterOn, turnOf}
-use Rattle.heights.specs.Given.{childrenOf}
 use Rattle.random.specs.SupplyLaws.{real-got, real-spent}
 
 -- ---- the check
@@ -57,7 +56,7 @@ module _ (pairs parents : List ℕ) (heights : List Float) (root : ℕ) where
       unfolding rootScale turnOf run height
       root-not-finite k = rw (bind-got uniform _ s (u .value) (u .supply) (real-got s u (run uniform s) e g), ← ef, ← eh, ← eb, k)
 
-      module _ (k : b ≡ true) (l : Float) (el : l ≡ floor (childrenOf pairs heights) root) where
+      module _ (k : b ≡ true) (l : Float) (el : l ≡ floor (kinIn pairs heights) root) where
         pub root-declined : lt (mul binary64 h f) l ≡ true → afterOn Turns.Declined (u .supply) t ≡ turnOf t s (run (rootScale tuning t) s)
         unfolding rootScale turnOf run height rootScaleDeclines
         root-declined d = rw (bind-got uniform _ s (u .value) (u .supply) (real-got s u (run uniform s) e g), ← ef, ← eh, ← eb, k, ← el, d)

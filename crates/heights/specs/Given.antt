@@ -7,7 +7,7 @@ use lib.Ieee.{Float}
 use Rattle.answer.specs.declared.Ratio.the-variants.{Even}
 use Rattle.random.specs.Draw.{Number, until, Draw}
 use Rattle.tree.specs.Tree.{Tree, parent, height}
-use Rattle.tree.specs.Given.{treeOf}
+use Rattle.tree.specs.Given.{kinIn}
 use Rattle.rules.specs.Rules.{floor, heightMoved}
 use Rattle.calls.specs.Call.{Reply, Outcome, moved}
 use Rattle.calls.specs.Draws.{internal, drawnHeight}
@@ -16,13 +16,9 @@ use Rattle.calls.specs.Draws.{internal, drawnHeight}
 unfoldable pub nonRootInternal : ℕ → ℕ → Number
 nonRootInternal n root = until (λ k. not (eqb k root)) (internal n)
 
--- what is read of a tree for the heights of a node's children
-abbrev pub childrenOf : List ℕ → List Float → Tree
-childrenOf pairs heights = treeOf pairs [] heights 0
-
 -- what is read of a tree for its heights alone
 abbrev pub heightsOf : List Float → Tree
-heightsOf heights = treeOf [] [] heights 0
+heightsOf heights = kinIn [] heights
 
 -- node k takes "a height from its taller child's to its parent's"
 unfoldable pub placing : Tree → ℕ → Draw (Reply Outcome)

@@ -6,7 +6,7 @@ ghost use lib.ListN.{length};
 ghost use Rattle.random.specs.Draw.{pick, run, drawnNumber};
 ghost use Rattle.tree.specs.Tree.{nodesOf};
 ghost use Rattle.tree.specs.Valid.{Valid};
-ghost use Rattle.tree.specs.Given.{treeOf};
+ghost use Rattle.tree.specs.Given.{treeOf, kinIn};
 ghost use Rattle.rules.specs.Rules.{floor, scaledTo, treeScaleRatio};
 ghost use Rattle.calls.specs.Call.{checked, called};
 ghost use Rattle.moves.specs.Programs as Programs;
@@ -14,7 +14,7 @@ ghost use Rattle.calls.specs.Draws.{least, tuned};
 ghost use Rattle.moves.specs.Programs.{overflows};
 ghost use Rattle.moves.specs.Moves.{nodeHeight, rootScale, treeScale, moveCall};
 ghost use Rattle.calls.specs.Given.{after, turnOf};
-ghost use Rattle.heights.specs.Given.{nonRootInternal, childrenOf, placing, heightsOf};
+ghost use Rattle.heights.specs.Given.{nonRootInternal, placing, heightsOf};
 use answer::Ratio;
 use calls::Answered;
 use calls::Height;
@@ -56,7 +56,7 @@ fn non_root_internal(s: Supply, n: usize, root: usize) -> DrawnNumber
 
 // The height of the taller child of a node.
 fn floor(pairs: &[u16], heights: &[f64], k: usize) -> f64
-    ensures { λ r. ⌜ r ≡ floor (childrenOf (now (pairs .entry)) (now (heights .entry))) k ⌝ }
+    ensures { λ r. ⌜ r ≡ floor (kinIn (now (pairs .entry)) (now (heights .entry))) k ⌝ }
 {
     let a = reads::height(heights, reads::first(pairs, k));
     let b = reads::height(heights, reads::second(pairs, k));

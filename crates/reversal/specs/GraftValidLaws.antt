@@ -1,6 +1,6 @@
--- A tree in which a node's parent went onto another branch is valid (`graft-valid`). In order: the ways up to the root from the three nodes
--- that moved, and with them from all; the ways from nodes that are not under the node; the heights, which do not fall on these ways. Assumes
--- nothing.
+-- A tree in which a node's parent went onto another branch is valid, if the branch's upper end is not under the node (`grafted-valid`), as it is not
+-- where every child is strictly younger than its parent (`graft-valid`). In order: the ways up to the root from the three nodes that moved, and
+-- with them from all; the ways from nodes that are not under the node; the heights, which do not fall on these ways. Assumes nothing.
 use mathlib.Core.Path.{_≡_, refl, sym, _∙_, subst}
 use mathlib.Core.Logic.{_≢_}
 use mathlib.Core.Bool.{not}
@@ -10,14 +10,15 @@ use lib.Dec.{T}
 use lib.Ieee.{Float, lt, le}
 use lib.Ieee.Scale.{finite}
 use Rattle.real.specs.Real as Real
-use Rattle.real.specs.OrderLaws.{lt→le, le-refl, le-trans, le-lt-trans}
+use Rattle.real.specs.OrderLaws.{le-trans, lt-le-trans, lt-le-absurd}
 use Rattle.tree.specs.Tree.{Tree, parent, height, sibling}
 use Rattle.tree.specs.Valid.{Reach, here, up, Dated, Valid, Strict}
-use Rattle.accepted.specs.WayLaws.{valid-linked}
+use Rattle.accepted.specs.Ways.{Under, itself, through}
+use Rattle.accepted.specs.WayLaws.{valid-linked, not-under}
 use Rattle.edits.specs.SlotLaws.{shaped-valid, not-own-parent}
 use Rattle.edits.specs.TurnLaws.{Among3, is-a, is-b, is-c, other, among3}
 use Rattle.rules.specs.Rules.{regraft}
-use Rattle.reversal.specs.FamilyLaws.{sibling-only, differ, sibling-below}
+use Rattle.reversal.specs.FamilyLaws.{sibling-only, under-le}
 use Rattle.reversal.specs.DatedLaws.{not-negative}
 use Rattle.reversal.specs.GraftLaws.{Grafts, graft-kin, graft-parent-node, graft-three, graft-shaped, graft-lower, graft-old-sibling, graft-parent, graft-other, graft-height, graft-at, graft-root-same, graft-root-sibling, graft-root-parent, graft-under, graft-sibling-under, graft-parent-under}
 
@@ -32,11 +33,10 @@ module _ {n : ℕ} {t : Tree} (v : Valid n t) {i j : ℕ} (g : Grafts n t i j) (
   moved : (k : ℕ) → Moved k
   moved k = among3 (sibling t i) (parent t i) j k
 
-  -- the parent's children were i and the sibling alone
+  -- the parent's children were i and the sibling alone, so that j was not one of them
   not-child : (k : ℕ) → k < n → k ≢ i → k ≢ sibling t i → parent t k ≢ parent t i
   not-child k K a b e = b (sibling-only (valid-linked v) i (g .node-i) (g .under-i) k K e a)
 
-  -- so j was not one of them
   not-sisters : parent t j ≢ parent t i
   not-sisters = not-child j (g .node-j) (g .not-i) (g .not-sibling)
 
@@ -78,124 +78,121 @@ module _ {n : ℕ} {t : Tree} (v : Valid n t) {i j : ℕ} (g : Grafts n t i j) (
         let u = from-all w (v .below k K d .parent-node) in
         one-of (moved k) (λ p q r. up (graft-under v g x k d p q) (rw (graft-other v g x k K p q r) u))
 
-  module _ (st : Strict n t) where
-    -- ---- nodes that are not under i
+  -- ---- nodes that are not under i
 
-    -- k is another node than i and no lower
-    record Outside (k : ℕ) : Type 0 where
-      another : k ≢ i
-      above : T (le (height t i) (height t k))
+  abbrev Outside : ℕ → Type 0
+  Outside k = Under n t k i → ⊥
 
-    -- what is above a node no lower than i
-    outside-up : (k : ℕ) → k < n → k ≢ t .root → T (le (height t i) (height t k)) → Outside (parent t k)
-    outside-up k K d h = record { another = differ t i (parent t k) higher; above = lt→le (height t i) (height t (parent t k)) higher }
+  -- the way up from k, or from the old sibling where k is the parent that left
+  record Ways (k : ℕ) : Type 0 where
+    from-sibling : k ≡ parent t i → Reach after (sibling t i)
+    from-it : k ≢ parent t i → Reach after k
+
+  ways : {k : ℕ} → Reach t k → k < n → Outside k → Ways k
+  ways (here {k} e) K o = record { from-sibling = λ f. here (sym (graft-root-sibling v g x (sym f ∙ e))); from-it = last (ℕ-discrete k j) }
+    where
+      last : Dec (k ≡ j) → k ≢ parent t i → Reach after k
+      last (yes h) f = subst (Reach after) (sym h) (from-lower (from-parent (λ d. absurd (d (sym h ∙ e)))))
+      last (no h) f = here (still-root k e f h)
+  ways (up {k} d r) K o =
+      let w = ways r (v .below k K d .parent-node) (λ u. o (through K d u)) in
+      record { from-sibling = past w; from-it = step (moved k) K d (λ e. o (subst (Under n t k) e itself)) w }
+    where
+      past : Ways (parent t k) → k ≡ parent t i → Reach after (sibling t i)
+      past w f =
+          let u : Reach after (parent t k) = w .from-it (λ e. not-own-parent v k K d (e ∙ sym f)) in
+          up (graft-sibling-under v g x (λ e. d (f ∙ e))) (rw (graft-old-sibling v g x, ← f) u)
+
+      step : {k : ℕ} → Moved k → k < n → k ≢ t .root → k ≢ i → Ways (parent t k) → k ≢ parent t i → Reach after k
+      step is-a K d a w f = w .from-sibling (graft-kin v g .same-parent)
+      step is-b K d a w f = absurd (f refl)
+      step is-c K d a w f = from-lower (from-parent (λ e. w .from-it not-sisters))
+      step (other {u = k} p q s) K d a w f = up (graft-under v g x k d p q) (rw (graft-other v g x k K p q s) (w .from-it (not-child k K a p)))
+
+  -- ---- the new height
+
+  module _ (X : T (finite x)) (low-i : T (le (height t i) x)) (low-j : T (le (height t j) x))
+      (high : j ≢ t .root → T (le x (height t (parent t j)))) (out : j ≢ t .root → Under n t (parent t j) i → ⊥) where
+    P : parent t i < n
+    P = graft-parent-node v g
+
+    Q : j ≢ t .root → parent t j < n
+    Q d = v .below j (g .node-j) d .parent-node
+
+    -- every node reaches the root
+    joined : (c : ℕ) → c < n → Reach after c
+    joined c C = from-all old-sibling taken (from-lower taken) (v .joined c C) C
       where
-        higher : T (lt (height t i) (height t (parent t k)))
-        higher = le-lt-trans (height t i) (height t k) (height t (parent t k)) (v .dated .number i (g .node-i)) (v .dated .number k K)
-            (v .dated .number (parent t k) (v .below k K d .parent-node)) h (st k K d)
+        old-sibling : Reach after (sibling t i)
+        old-sibling = ways (v .joined (parent t i) P) P (λ u. not-under v i (g .node-i) (g .under-i) itself u) .from-sibling refl
 
-    -- the way up from k, or from the old sibling where k is the parent that left
-    record Ways (k : ℕ) : Type 0 where
-      from-sibling : k ≡ parent t i → Reach after (sibling t i)
-      from-it : k ≢ parent t i → Reach after k
+        taken : Reach after (parent t i)
+        taken = from-parent (λ d. ways (v .joined (parent t j) (Q d)) (Q d) (out d) .from-it not-sisters)
 
-    ways : {k : ℕ} → Reach t k → k < n → Outside k → Ways k
-    ways (here {k} e) K o = record { from-sibling = λ f. here (sym (graft-root-sibling v g x (sym f ∙ e))); from-it = last (ℕ-discrete k j) }
+    number : (c : ℕ) → c < n → Dec (c ≡ parent t i) → T (finite (height after c))
+    number c C (yes e) = rw (e, graft-at v g x) X
+    number c C (no d) = rw (graft-height v g x c d) (v .dated .number c C)
+
+    positive : (c : ℕ) → c < n → Dec (c ≡ parent t i) → T (not (lt (height after c) Real.zero))
+    positive c C (no d) = rw (graft-height v g x c d) (v .dated .positive c C)
+    positive c C (yes e) =
+        rw (e, graft-at v g x) (not-negative (height t i) x (v .dated .number i (g .node-i)) X (v .dated .positive i (g .node-i)) low-i)
+
+    -- a node that keeps its parent is no higher, whether that is i's parent or not
+    same-branch : (c : ℕ) → c < n → c ≢ t .root → c ≢ sibling t i → Dec (parent t c ≡ parent t i) → T (le (height t c) (height after (parent t c)))
+    same-branch c C d p (no e) = rw (graft-height v g x (parent t c) e) (v .dated .ordered c C d)
+    same-branch c C d p (yes e) = rw (e, graft-at v g x) (below (ℕ-discrete c i))
       where
-        last : Dec (k ≡ j) → k ≢ parent t i → Reach after k
-        last (yes h) f = subst (Reach after) (sym h) (from-lower (from-parent (λ d. absurd (d (sym h ∙ e)))))
-        last (no h) f = here (still-root k e f h)
-    ways (up {k} d r) K o =
-        let w = ways r (v .below k K d .parent-node) (outside-up k K d (o .above)) in
-        record { from-sibling = past w; from-it = step (moved k) K d (o .another) w }
-      where
-        past : Ways (parent t k) → k ≡ parent t i → Reach after (sibling t i)
-        past w f =
-            let u : Reach after (parent t k) = w .from-it (λ e. not-own-parent v k K d (e ∙ sym f)) in
-            up (graft-sibling-under v g x (λ e. d (f ∙ e))) (rw (graft-old-sibling v g x, ← f) u)
+        below : Dec (c ≡ i) → T (le (height t c) x)
+        below (yes f) = rw f low-i
+        below (no f) = absurd (not-child c C f p e)
 
-        step : {k : ℕ} → Moved k → k < n → k ≢ t .root → k ≢ i → Ways (parent t k) → k ≢ parent t i → Reach after k
-        step is-a K d a w f = w .from-sibling (graft-kin v g .same-parent)
-        step is-b K d a w f = absurd (f refl)
-        step is-c K d a w f = from-lower (from-parent (λ e. w .from-it not-sisters))
-        step (other {u = k} p q s) K d a w f = up (graft-under v g x k d p q) (rw (graft-other v g x k K p q s) (w .from-it (not-child k K a p)))
+    -- nor is the old sibling under what was above the parent
+    old-branch : parent t i ≢ t .root → T (le (height t (sibling t i)) (height after (parent t (parent t i))))
+    old-branch d =
+        let k = graft-kin v g in
+        let S : T (finite (height t (sibling t i))) = v .dated .number (sibling t i) (k .node) in
+        let G : T (finite (height t (parent t (parent t i)))) = v .dated .number (parent t (parent t i)) (v .below (parent t i) P d .parent-node) in
+        let s : T (le (height t (sibling t i)) (height t (parent t i))) = rw (k .same-parent) at (v .dated .ordered (sibling t i) (k .node) (k .under)) in
+        rw (graft-height v g x (parent t (parent t i)) (not-own-parent v (parent t i) P d))
+        (le-trans (height t (sibling t i)) (height t (parent t i)) (height t (parent t (parent t i))) S (v .dated .number (parent t i) P) G
+        s (v .dated .ordered (parent t i) P d))
 
-    -- ---- the new height
+    ordered : {c : ℕ} → Moved c → c < n → c ≢ after .root → T (le (height after c) (height after (parent after c)))
+    ordered is-a C d =
+        let b = old-branch (λ e. d (sym (graft-root-sibling v g x e))) in
+        rw (graft-old-sibling v g x, graft-height v g x (sibling t i) (graft-three v g .ab)) b
+    ordered is-b C d =
+        rw (graft-parent v g x, graft-at v g x, graft-height v g x (parent t j) not-sisters) (high (λ e. d (sym (graft-root-parent v g x e))))
+    ordered is-c C d = rw (graft-lower v g x, graft-at v g x, graft-height v g x j (g .not-parent)) low-j
+    ordered (other {u = c} p q s) C d =
+        let b = same-branch c C (λ e. d (still-root c e q s)) p (ℕ-discrete (parent t c) (parent t i)) in
+        rw (graft-other v g x c C p q s, graft-height v g x c q) b
 
-    module _ (X : T (finite x)) (low-i : T (le (height t i) x)) (low-j : T (le (height t j) x))
-        (high : j ≢ t .root → T (le x (height t (parent t j)))) (loop : j ≢ t .root → parent t j ≢ i) where
-      P : parent t i < n
-      P = graft-parent-node v g
+    dated : Dated n after
+    dated = record {
+      number = λ c C. number c C (ℕ-discrete c (parent t i));
+      positive = λ c C. positive c C (ℕ-discrete c (parent t i));
+      ordered = λ c C d. ordered (moved c) C d;
+    }
 
-      Q : j ≢ t .root → parent t j < n
-      Q d = v .below j (g .node-j) d .parent-node
+    -- the parent may go to a finite height no lower than i and j and no higher than the branch's upper end, which is not under i, where there is
+    -- one
+    pub grafted-valid : Valid n (regraft n t i j x)
+    grafted-valid = shaped-valid (graft-shaped v g x) joined dated
 
-      -- every node reaches the root
-      joined : (c : ℕ) → c < n → Reach after c
-      joined c C = from-all old-sibling taken (from-lower taken) (v .joined c C) C
-        where
-          outside : (d : j ≢ t .root) → Outside (parent t j)
-          outside d = record {
-            another = loop d;
-            above = le-trans (height t i) x (height t (parent t j)) (v .dated .number i (g .node-i)) X (v .dated .number (parent t j) (Q d))
-                low-i (high d);
-          }
-
-          old-sibling : Reach after (sibling t i)
-          old-sibling =
-              let o = outside-up i (g .node-i) (g .under-i) (le-refl (height t i) (v .dated .number i (g .node-i))) in
-              ways (v .joined (parent t i) P) P o .from-sibling refl
-
-          taken : Reach after (parent t i)
-          taken = from-parent (λ d. ways (v .joined (parent t j) (Q d)) (Q d) (outside d) .from-it not-sisters)
-
-      number : (c : ℕ) → c < n → Dec (c ≡ parent t i) → T (finite (height after c))
-      number c C (yes e) = rw (e, graft-at v g x) X
-      number c C (no d) = rw (graft-height v g x c d) (v .dated .number c C)
-
-      positive : (c : ℕ) → c < n → Dec (c ≡ parent t i) → T (not (lt (height after c) Real.zero))
-      positive c C (no d) = rw (graft-height v g x c d) (v .dated .positive c C)
-      positive c C (yes e) =
-          rw (e, graft-at v g x) (not-negative (height t i) x (v .dated .number i (g .node-i)) X (v .dated .positive i (g .node-i)) low-i)
-
-      -- a node that keeps its parent is no higher, whether that is i's parent or not
-      same-branch : (c : ℕ) → c < n → c ≢ t .root → c ≢ sibling t i → Dec (parent t c ≡ parent t i) → T (le (height t c) (height after (parent t c)))
-      same-branch c C d p (no e) = rw (graft-height v g x (parent t c) e) (v .dated .ordered c C d)
-      same-branch c C d p (yes e) = rw (e, graft-at v g x) (below (ℕ-discrete c i))
-        where
-          below : Dec (c ≡ i) → T (le (height t c) x)
-          below (yes f) = rw f low-i
-          below (no f) = absurd (not-child c C f p e)
-
-      -- nor is the old sibling under what was above the parent
-      old-branch : parent t i ≢ t .root → T (le (height t (sibling t i)) (height after (parent t (parent t i))))
-      old-branch d =
-          let S : T (finite (height t (sibling t i))) = v .dated .number (sibling t i) (graft-kin v g .node) in
-          let G : T (finite (height t (parent t (parent t i)))) = v .dated .number (parent t (parent t i)) (v .below (parent t i) P d .parent-node) in
-          let s = lt→le (height t (sibling t i)) (height t (parent t i)) (sibling-below v st i (g .node-i) (g .under-i)) in
-          rw (graft-height v g x (parent t (parent t i)) (not-own-parent v (parent t i) P d))
-          (le-trans (height t (sibling t i)) (height t (parent t i)) (height t (parent t (parent t i))) S (v .dated .number (parent t i) P) G
-          s (v .dated .ordered (parent t i) P d))
-
-      ordered : {c : ℕ} → Moved c → c < n → c ≢ after .root → T (le (height after c) (height after (parent after c)))
-      ordered is-a C d =
-          let b = old-branch (λ e. d (sym (graft-root-sibling v g x e))) in
-          rw (graft-old-sibling v g x, graft-height v g x (sibling t i) (graft-three v g .ab)) b
-      ordered is-b C d =
-          rw (graft-parent v g x, graft-at v g x, graft-height v g x (parent t j) not-sisters) (high (λ e. d (sym (graft-root-parent v g x e))))
-      ordered is-c C d = rw (graft-lower v g x, graft-at v g x, graft-height v g x j (g .not-parent)) low-j
-      ordered (other {u = c} p q s) C d =
-          let b = same-branch c C (λ e. d (still-root c e q s)) p (ℕ-discrete (parent t c) (parent t i)) in
-          rw (graft-other v g x c C p q s, graft-height v g x c q) b
-
-      dated : Dated n after
-      dated = record {
-        number = λ c C. number c C (ℕ-discrete c (parent t i));
-        positive = λ c C. positive c C (ℕ-discrete c (parent t i));
-        ordered = λ c C d. ordered (moved c) C d;
-      }
-
-  -- the parent may go to a finite height no lower than i and j and no higher than the branch's upper end, which is not i, where there is one
+  -- and where every child is strictly younger than its parent, to a branch whose upper end is not i: such an end is not under i, being no lower
   pub graft-valid : Strict n t → T (finite x) → T (le (height t i) x) → T (le (height t j) x)
       → (j ≢ t .root → T (le x (height t (parent t j)))) → (j ≢ t .root → parent t j ≢ i) → Valid n (regraft n t i j x)
-  graft-valid st X a b h l = shaped-valid (graft-shaped v g x) (joined st X a b h l) (dated st X a b h l)
+  graft-valid st X a b h l = grafted-valid X a b h (λ d u. out d (v .below j (g .node-j) d .parent-node) u)
+    where
+      out : j ≢ t .root → parent t j < n → Under n t (parent t j) i → ⊥
+      out d Q u = go u Q (λ e. l d (sym e)) (le-trans (height t i) x (height t (parent t j)) (v .dated .number i (g .node-i)) X (v .dated .number (parent t j) Q) a (h d))
+        where
+          go : {c k : ℕ} → Under n t c k → c < n → k ≢ c → T (le (height t k) (height t c)) → ⊥
+          go itself C ne y = ne refl
+          go (through {c} {k} C d u) C′ ne y =
+              let P : parent t c < n = v .below c C d .parent-node in
+              let r = under-le v u P in
+              lt-le-absurd (height t c) (height t k) (v .dated .number c C) (v .dated .number k (r .0))
+              (lt-le-trans (height t c) (height t (parent t c)) (height t k) (v .dated .number c C) (v .dated .number (parent t c) P) (v .dated .number k (r .0)) (st c C d) (r .1)) y

@@ -6,10 +6,9 @@ use lib.Ieee.{Float}
 use Rattle.tree.specs.Tree.{Tree, parent, sibling}
 use Rattle.tree.specs.Valid.{Valid}
 use Rattle.accepted.specs.Ways.{Under, itself, through}
-use Rattle.accepted.specs.WayLaws.{valid-linked}
+use Rattle.accepted.specs.WayLaws.{valid-linked, not-under}
 use Rattle.reversal.specs.FamilyLaws.{sibling-is}
 use Rattle.reversal.specs.BranchLaws.{Branch}
-use Rattle.slide.specs.AboveLaws.{not-under}
 
 pub down-apart : {n : ℕ} {t : Tree} → Valid n t → {i : ℕ} → i < n → i ≢ t .root → {x : Float} {j : ℕ} → Branch n t x (sibling t i) j → j ≢ parent t i
 down-apart {n} {t} v {i} I r {x} {j} b e =

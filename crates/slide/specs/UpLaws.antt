@@ -12,14 +12,13 @@ use Rattle.real.specs.OrderLaws.{lt→le, le-lt-trans, nlt→le}
 use Rattle.tree.specs.Tree.{Tree, parent, height, sibling}
 use Rattle.tree.specs.Valid.{Valid}
 use Rattle.accepted.specs.Ways.{Under, itself, through}
-use Rattle.accepted.specs.WayLaws.{valid-linked, under-parent}
+use Rattle.accepted.specs.WayLaws.{valid-linked, under-parent, not-under}
 use Rattle.rules.specs.Rules.{regraft}
 use Rattle.reversal.specs.FailedLaws.{le-nlt}
 use Rattle.reversal.specs.FamilyLaws.{Sibling, sibling-is, under-le}
 use Rattle.reversal.specs.GraftLaws.{Grafts, graft-height}
 use Rattle.reversal.specs.BranchLaws.{Climb, stops, goes}
-use Rattle.slide.specs.AboveLaws.{not-under}
-use Rattle.slide.specs.GraftedLaws.{grafted-valid}
+use Rattle.reversal.specs.GraftValidLaws.{grafted-valid}
 
 -- ---- where going up ends
 

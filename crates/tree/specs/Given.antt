@@ -34,6 +34,10 @@ treeOf pairs ps hs r = record { pairs = pairs; parents = ps; heights = hs; root 
 abbrev pub datesIn : List ℕ → List Float → ℕ → Tree
 datesIn ps hs r = treeOf [] ps hs r
 
+-- what is read of a tree where only children and heights are
+abbrev pub kinIn : List ℕ → List Float → Tree
+kinIn pairs hs = treeOf pairs [] hs 0
+
 -- the lengths of a tree of n nodes
 unfoldable pub sizesFit : ℕ → ℕ → ℕ → ℕ → Bool
 sizesFit n pairs parents heights = leb 3 n && leb n 4095 && eqb (n % 2) 1 && eqb pairs (n + n) && eqb heights n && eqb parents n
