@@ -1,6 +1,7 @@
 -- How the code looks for the branches under a node that span a height. A walk goes down, the first child's side before the second's, and no further
 -- than the branches that it counts; it ends at the branch with the number that it looks for, and it may look at so many nodes at most, so that
--- it ends on any slices. WalkLaws shows that on a valid tree it meets what rules/Rules lists. Definitions only. Assumes nothing.
+-- it ends on any slices. This serves the code's contracts alone: WalkLaws shows that on a valid tree it meets what rules/Rules lists. Definitions only.
+-- Assumes nothing.
 use mathlib.Core.Bool.{Bool, cond, _||_}
 use Prim.Native.Nat.{ℕ, zero, suc, _-_}
 use lib.Dec.{ltb, eqb}

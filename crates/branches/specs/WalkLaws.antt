@@ -1,6 +1,6 @@
 -- The walk over branches. In order: what it does at one node (`walk-found` to `walk-tip`), and that what it has met and what it has left do
 -- not grow together (`walk-sum`); that on a valid tree it meets the branches that rules/Rules lists, each at its number (`counted-is`,
--- `picked-is`, `picked-branch`), which are no more than the nodes (`branches-few`); and that the code needs only the fields of a tree that it is
+-- `picked-is`, `picked-branch`); and that the code needs only the fields of a tree that it is
 -- lent (`counted-bare`, `picked-bare`, `climb-bare`). Assumes nothing.
 use mathlib.Core.Path.{_≡_, refl, sym, ap, _∙_}
 use mathlib.Core.Bool.{Bool, true, false, or-true}
@@ -219,10 +219,6 @@ module _ {n : ℕ} {t : Tree} (v : Valid n t) (x : Float) {k : ℕ} (K : k < n) 
       go (passes i f m s) = absurd (omega arith)
       go (stops i f m b) = let z : index - 0 ≡ index = omega arith in f ∙ ap (λ (j : ℕ). getD (branches n t x k) j 0) z
 
-  -- no more branches are listed than there are nodes
-  pub branches-few : length (branches n t x k) ≤ n
-  branches-few = let z = walk-sum n n t x noNode k (outset n) in omega (arith, walk-counts)
-
 module _ {t : Tree} (v : Valid (nodesOf (t .pairs)) t) (x : Float) {k : ℕ} (K : k < nodesOf (t .pairs)) (X : T (finite x))
     (e : lt (height t k) x ≡ false) where
   -- what is counted is what is listed
@@ -253,6 +249,7 @@ module _ (t : Tree) (x : Float) where
   unfolding counted
   counted-bare k = let n = nodesOf (t .pairs) in ap (λ (w : Walk). w .met) (walk-bare n n noNode k (outset n))
 
+  -- nor does the branch that is picked
   pub picked-bare : (k index : ℕ) → picked (treeOf (t .pairs) [] (t .heights) 0) x k index ≡ picked t x k index
   unfolding picked
   picked-bare k index = let n = nodesOf (t .pairs) in ap (λ (w : Walk). w .found) (walk-bare n n index k (outset n))

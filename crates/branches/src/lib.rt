@@ -11,10 +11,10 @@ ghost use Rattle.branches.specs.Walk.{meet, walk, counted, picked};
 const NONE: usize = 65535;
 
 // A walk over branches: the one looked for, or none yet; how many were met before it; how many nodes may still be looked at.
-pub struct Walk {
-    pub found: usize,
-    pub met: usize,
-    pub left: usize,
+struct Walk {
+    found: usize,
+    met: usize,
+    left: usize,
 }
 
 // The branch over k is met.

@@ -1,8 +1,8 @@
 -- The ways through the draws that several moves make: a node other than the root (`nonRootLaws`), an internal node (`internalLaws`), a
 -- height in an interval (`intervalLaws`) and the factor of a scale (`scalerLaws`). Assumes nothing.
-use mathlib.Core.Path.{_≡_, refl}
+use mathlib.Core.Path.{_≡_, refl, sym, ap, _∙_}
 use mathlib.Core.Bool.{Bool, true, false, not}
-use Prim.Native.Nat.{ℕ, _+_, _-_, _<_, _≤_}
+use Prim.Native.Nat.{ℕ, _+_, _-_, _/_, _<_}
 use native.Mathlib.Omega.{arith}
 use lib.Dec.{T, eqb}
 use lib.Ieee.{Float, binary64, add, sub, mul, div, le, nanBits}
@@ -15,7 +15,7 @@ use Rattle.random.specs.Draw.{below, onward, pick, drawnNumber}
 use Rattle.random.specs.DrawLaws.{below-yields}
 use Rattle.random.specs.SupplyLaws.{number-got, number-spent}
 use Rattle.tree.specs.Tree.{tipsOf}
-use Rattle.rules.specs.Rules.{within}
+use Rattle.rules.specs.Rules.{internals, oneInternal, within}
 use Rattle.calls.specs.declared.Height.the-variants as Heights
 use Rattle.calls.specs.Draws.{nonRoot, internal, one, scaler, interpolated}
 use Rattle.calls.specs.Given.{heightOf}
@@ -45,21 +45,35 @@ pub ruleset nonRootLaws = (non-root-spent, non-root-taken, non-root-passed, non-
 
 -- ---- an internal node
 
-module _ (n : ℕ) (s : Supply) (r : DrawnNumber) (e : r ≡ drawnNumber s (pick (below (n - tipsOf n)) s)) where
-  pub internal-drawn : r .ok ≡ true → record { ok = true; value = tipsOf n + r .value; supply = r .supply } ≡ drawnNumber s (pick (internal n) s)
+-- half of n nodes are internal, rounded down, and the rest are tips
+tips-rest : (n : ℕ) → tipsOf n ≡ n - n / 2
+tips-rest n = omega arith
+
+internals-half : (n : ℕ) → internals n ≡ n / 2
+internals-half n = omega arith
+
+pub one-half : (n : ℕ) → eqb (n / 2) 1 ≡ oneInternal n
+one-half n = ap (λ (m : ℕ). eqb m 1) (sym (internals-half n))
+
+module _ (n : ℕ) (s : Supply) (r : DrawnNumber) (e : r ≡ drawnNumber s (pick (below (n / 2)) s)) where
+  drawn : r ≡ drawnNumber s (pick (below (internals n)) s)
+  drawn = e ∙ ap (λ (m : ℕ). drawnNumber s (pick (below m) s)) (sym (internals-half n))
+
+  pub internal-drawn : r .ok ≡ true → record { ok = true; value = n - n / 2 + r .value; supply = r .supply } ≡ drawnNumber s (pick (internal n) s)
   unfolding internal pick onward
-  internal-drawn h = rw (number-got s r (pick (below (n - tipsOf n)) s) e h)
+  internal-drawn h = rw (number-got s r (pick (below (internals n)) s) drawn h, tips-rest n)
 
   pub internal-spent : r .ok ≡ false → record { ok = false; value = 0; supply = s } ≡ drawnNumber s (pick (internal n) s)
   unfolding internal pick onward
-  internal-spent h = rw (number-spent s r (pick (below (n - tipsOf n)) s) e h)
+  internal-spent h = rw (number-spent s r (pick (below (internals n)) s) drawn h)
 
-  pub internal-fits : n ≤ 4095 → r .ok ≡ true → Fits w64 (tipsOf n + r .value)
+  pub internal-fits : Fits w64 n → r .ok ≡ true → Fits w64 (n - n / 2 + r .value)
   internal-fits h k =
-      let b : r .value < n - tipsOf n = below-yields (n - tipsOf n) s (r .value) (r .supply) (number-got s r (pick (below (n - tipsOf n)) s) e k) in
+      let b : r .value < n / 2 = below-yields (n / 2) s (r .value) (r .supply) (number-got s r (pick (below (n / 2)) s) e k) in
+      let c = h .fits in
       record { fits = omega arith }
 
-pub ruleset internalLaws = (internal-drawn, internal-spent, internal-fits)
+pub ruleset internalLaws = (one-half, internal-drawn, internal-spent, internal-fits)
 
 -- ---- a height in an interval
 

@@ -36,6 +36,7 @@ module _ {A : Type 0} (limits : Bool) (program : Draw (Reply A)) (t : Tree) (g :
     pub ran : run program (supplyOf g allowance) ≡ got (makes a) (supplyOf h left)
     pub made : draws ≡ allowance - left
 
+  -- a call that gave a value passed its checks, and its program drew the value
   pub call-given : (allowance : ℕ) (a : A) (draws : ℕ) (h : Random) → callOf limits program t g allowance ≡ given a draws h → Gave allowance a draws h
   unfolding callOf ended
   call-given allowance a draws h = checks (checked limits t allowance) refl
@@ -61,6 +62,7 @@ module _ {A : Type 0} (limits : Bool) (program : Draw (Reply A)) (t : Tree) (g :
         let c = call-given allowance a draws h e in
         run-lawful program .steps (supplyOf g allowance) (makes a) (supplyOf h (c .left)) (c .ran) .moved ∙ ap (λ (k : ℕ). after k g) (sym (c .made))
 
+    -- with no more draws than are allowed
     pub call-within : draws ≤ allowance
     call-within = let c = call-given allowance a draws h e in let m = c .made in omega arith
 

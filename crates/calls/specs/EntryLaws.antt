@@ -1,5 +1,5 @@
--- For the entry points of the moves. Each checks, makes its turn and answers: what a check that passed gives to the turn (`entry-valid`,
--- `entry-limits`), what a turn gives to the answer (`entry-left`), and that what is answered is the call (`entry-refused`, `entry-done`).
+-- For the entry points of the moves. Each checks, makes its turn and answers: what a check that passed gives to the turn
+-- (`entry-valid`), what a turn gives to the answer (`entry-left`), and that what is answered is the call (`entry-refused`, `entry-done`).
 -- Assumes nothing.
 use mathlib.Core.Path.{_≡_, refl, sym, ap, _∙_}
 use mathlib.Core.Bool.{Bool, true, false, _&&_, and-eq-true-iff}
@@ -26,11 +26,13 @@ use Rattle.calls.specs.Given.{After, after, turnOf, turnedBack, answered
 
 -- ---- a check that passed
 
+-- each of the three tests passed
 pub record Passed (limits : Bool) (t : Tree) (allowance : ℕ) : Type 0 where
   pub tree : validated t ≡ Verdicts.Fine
   pub within : limits ≡ true
   pub allows : allowed allowance ≡ true
 
+-- where the check is fine, each did
 pub passed : (limits : Bool) (t : Tree) (allowance : ℕ) → checked limits t allowance ≡ Verdicts.Fine → Passed limits t allowance
 unfolding checked
 passed limits t allowance = go (validated t) refl (limits && allowed allowance) refl
@@ -46,12 +48,11 @@ module _ (limits : Bool) (pairs parents : List ℕ) (heights : List Float) (root
   abbrev t : Tree
   t = treeOf pairs parents heights root
 
+  -- so that the turn is given a valid tree
   pub entry-valid : v ≡ Verdicts.Fine → Valid (nodesOf pairs) (treeOf pairs parents heights root)
   entry-valid y = fine-valid t (passed limits t allowance (sym e ∙ y) .tree)
 
-  pub entry-limits : v ≡ Verdicts.Fine → limits ≡ true
-  entry-limits y = passed limits t allowance (sym e ∙ y) .within
-
+  -- what is answered where the check refuses is the call
   pub entry-refused : (g : Random) (program : Draw (Reply Outcome)) (why : Refusal) → v ≡ Verdicts.Refused why → (r : Answered) → r ≡ turnedBack why g
       → called (r .answer) (r .random) pairs parents heights ≡ treeCall limits program (treeOf pairs parents heights root) g allowance
   unfolding treeCall callOf leaves
@@ -77,6 +78,7 @@ module _ (t : Tree) (g : Random) (allowance : ℕ) (turn : Turn) (pairs parents 
       go (got (makes declined) u) f e = same u (ap (λ (a : After). a .supply) e) (drawn (makes declined) u f)
       go (got (makes (moved w r)) u) f e = same u (ap (λ (a : After). a .supply) e) (drawn (makes (moved w r)) u f)
 
+  -- no more draws are left after a turn than were allowed
   pub entry-left : (program : Draw (Reply Outcome)) → after turn pairs parents heights ≡ turnOf t (supplyOf g allowance) (run program (supplyOf g allowance)) → turn .supply .left ≤ allowance
   entry-left program = left-of program (run program (supplyOf g allowance)) refl
 
@@ -92,6 +94,7 @@ module _ (t : Tree) (g : Random) (allowance : ℕ) (turn : Turn) (pairs parents 
   settled (got (makes declined) u) = refl
   settled (got (makes (moved w r)) u) = refl
 
+  -- what is answered after the turn is the call
   pub entry-done : (limits : Bool) (program : Draw (Reply Outcome)) (v : Verdict) → v ≡ checked limits t allowance → v ≡ Verdicts.Fine
       → after turn pairs parents heights ≡ turnOf t (supplyOf g allowance) (run program (supplyOf g allowance))
       → (r : Answered) → r ≡ answeredOf (turn .turned) (turn .supply) g allowance
@@ -99,4 +102,4 @@ module _ (t : Tree) (g : Random) (allowance : ℕ) (turn : Turn) (pairs parents 
   unfolding treeCall callOf answering
   entry-done limits program v ev y e r er = rw (er, ← ev, y) (ap answering e ∙ settled (run program (supplyOf g allowance)))
 
-pub ruleset entryLaws = (entry-valid, entry-limits, entry-refused, entry-left, entry-done)
+pub ruleset entryLaws = (entry-valid, entry-refused, entry-left, entry-done)

@@ -19,6 +19,7 @@ use Rattle.calls.specs.Given.{heightOf}
 
 -- r is the uniform, and h the height that it takes
 module _ (k : ℕ) (lower upper : Float) (make : Float → Outcome) (s : Supply) (r : DrawnReal) (e : r ≡ drawnReal s (run uniform s)) where
+  -- no uniform is drawn
   pub height-spent : r .ok ≡ false → run (drawnHeight k lower upper make) s ≡ spent
   unfolding drawnHeight
   height-spent f = bind-spent uniform _ s (real-spent s r (run uniform s) e f)
@@ -34,6 +35,7 @@ module _ (k : ℕ) (lower upper : Float) (make : Float → Outcome) (s : Supply)
     unfolding drawnHeight run
     ran = bind-got uniform _ s (r .value) (r .supply) (real-got s r (run uniform s) e f)
 
+    -- the height is taken
     pub height-inside : (x : Float) → h ≡ Heights.At x → run (drawnHeight k lower upper make) s ≡ got (makes (make x)) (r .supply)
     height-inside x p = ran ∙ ap (λ (a : Reply Outcome). got a (r .supply)) (go inside (sym eh ∙ p))
       where
@@ -41,6 +43,7 @@ module _ (k : ℕ) (lower upper : Float) (make : Float → Outcome) (s : Supply)
         go true q = let y : at ≡ x = cc in ap (λ (z : Float). makes (make z)) y
         go false q = let z : _≡_ {A = ℕ} 0 1 = cc in absurd (omega arith)
 
+    -- the height is an 8
     pub height-outside : h ≡ Heights.Outside → run (drawnHeight k lower upper make) s ≡ got (outside k) (r .supply)
     height-outside p = ran ∙ ap (λ (a : Reply Outcome). got a (r .supply)) (go inside (sym eh ∙ p))
       where

@@ -24,10 +24,12 @@ module _ (test : ℕ → Bool) where
 
   -- none of the first m passes
   module _ (m : ℕ) (i : least test m ≡ m) where
+    -- nor does m
     pub least-step : test m ≡ false → least test (m + 1) ≡ m + 1
     unfolding least
     least-step h = rw (add-one, i, le-ltb m m (omega arith), h)
 
+    -- but m does, and it is the lowest of any more
     pub least-stop : (n : ℕ) → m < n → test m ≡ true → least test n ≡ m
     unfolding least
     least-stop n h t =
@@ -54,6 +56,7 @@ module _ (test : ℕ → Bool) where
   unfolding least
   least-next m = (λ h. rw (lt-ltb (least test m) m h), λ h. ((λ e. rw (le-ltb (least test m) m h, e)), λ e. rw (le-ltb (least test m) m h, e)))
 
+  -- it passes
   pub least-holds : (m : ℕ) → least test m < m → test (least test m) ≡ true
   least-holds zero h = absurd (omega arith)
   least-holds (suc m) h = go (decLe m (least test m)) (test m) refl (least-holds m)
@@ -63,6 +66,7 @@ module _ (test : ℕ → Bool) where
       go (yes k) true e rest = rw (least-next m .1 k .0 e) e
       go (yes k) false e rest = let z = least-next m .1 k .1 e in absurd (omega arith)
 
+  -- none below it does
   pub least-below : (m j : ℕ) → j < m → j < least test m → test j ≡ false
   least-below zero j h k = absurd (omega arith)
   least-below (suc m) j h k = go (decLe m (least test m)) (test m) refl (least-below m j)

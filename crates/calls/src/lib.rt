@@ -5,7 +5,7 @@ ghost use mathlib.Core.Path.{_≡_};
 ghost use Prim.Native.Nat.{_≤_};
 ghost use Rattle.random.specs.Draw.{pick, drawnNumber};
 ghost use Rattle.tree.specs.Given.{treeOf};
-ghost use Rattle.rules.specs.Rules.{within};
+ghost use Rattle.rules.specs.Rules.{oneInternal, within};
 ghost use Rattle.calls.specs.Call.{checked};
 ghost use Rattle.calls.specs.Draws.{nonRoot, internal, scaler, tuned};
 ghost use Rattle.calls.specs.Given.{turnedBack, answeredOf, heightOf};
@@ -147,18 +147,24 @@ pub fn non_root(s: Supply, n: usize, root: usize) -> DrawnNumber
     }
 }
 
+// Whether n nodes have one internal node: half of them are internal, rounded down.
+pub fn is_one_internal(n: usize) -> bool
+    ensures { λ r. ⌜ r ≡ oneInternal n ⌝ }
+{
+    n / 2 == 1
+}
+
 // An internal node of n.
 pub fn internal(s: Supply, n: usize) -> DrawnNumber
-    requires { ⌜ n ≤ 4095 ⌝ }
     ensures { λ r. ⌜ r ≡ drawnNumber s (pick (internal n) s) ⌝ }
 {
-    let tips = (n + 1) / 2;
-    let d = s.below(n - tips);
+    let half = n / 2;
+    let d = s.below(half);
     let supply = d.supply;
     if d.ok {
         return DrawnNumber {
             ok: true,
-            value: tips + d.value,
+            value: n - half + d.value,
             supply,
         };
     }

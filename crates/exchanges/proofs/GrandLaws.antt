@@ -6,7 +6,6 @@ use mathlib.Core.List.{List}
 use Prim.Native.Nat.{ℕ, zero, suc, _+_, _-_, _/_, _≤_, _<_}
 use native.Mathlib.Numerals.{add-one}
 use native.Mathlib.Omega.{arith}
-use lib.Dec.{eqb}
 use lib.ListN.{getD}
 use lib.Ieee.{Float, nan, lt}
 use borrow.Author.Tests.{le-ltb}
@@ -134,9 +133,6 @@ pub ruleset kinLaws = (taller-second, taller-first, uncle-first, uncle-second, s
 
 -- ---- what is declined
 
-pub one-half : (n : ℕ) → eqb (n / 2) 1 ≡ oneInternal n
-one-half n = let e : n / 2 ≡ n - (n + 1) / 2 = omega arith in ap (λ (m : ℕ). eqb m 1) e
-
 module _ (pairs : List ℕ) (hs : List Float) (n g : ℕ) (o : Bool) (eo : o ≡ oneInternal n) where
   pub declines-one : o ≡ true → true ≡ narrowDeclines n (kinIn pairs hs) g
   unfolding narrowDeclines
@@ -151,4 +147,4 @@ module _ (pairs : List ℕ) (hs : List Float) (n g : ℕ) (o : Bool) (eo : o ≡
     unfolding narrowDeclines tallerIn
     declines-not f = rw (← eo, h, ← ek, ← eb, f)
 
-pub ruleset narrowDeclinesLaws = (one-half, declines-one, declines-tip, declines-not)
+pub ruleset narrowDeclinesLaws = (declines-one, declines-tip, declines-not)

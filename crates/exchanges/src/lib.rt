@@ -1,12 +1,11 @@
 // WideExchange and NarrowExchange: two nodes of a lent tree change places, the port of the functions of the same names of rove's moves.rs. Each has
 // an entry, which checks all that it is given, and a turn for a tree that has been checked. Assumes nothing.
 ghost use mathlib.Core.Path.{_≡_};
-ghost use Prim.Native.Nat.{_≤_};
 ghost use Rattle.random.specs.Draw.{pick, run, drawnNumber};
 ghost use Rattle.tree.specs.Tree.{nodesOf};
 ghost use Rattle.tree.specs.Valid.{Valid};
 ghost use Rattle.tree.specs.Given.{treeOf, datesIn, kinIn};
-ghost use Rattle.rules.specs.Rules.{oneInternal, grand, grands, narrowDeclines, wideDeclines};
+ghost use Rattle.rules.specs.Rules.{grand, grands, narrowDeclines, wideDeclines};
 ghost use Rattle.calls.specs.Call.{called};
 ghost use Rattle.moves.specs.Programs as Programs;
 ghost use Rattle.moves.specs.Moves.{moveCall, narrowExchange, wideExchange};
@@ -71,7 +70,7 @@ fn wide_declines(parents: &[u16], heights: &[f64], i: usize, j: usize) -> bool
 }
 
 // Two nodes other than the root are drawn, and change places.
-pub fn wide_exchange_turn(
+fn wide_exchange_turn(
     pairs: &mut [u16],
     parents: &mut [u16],
     heights: &[f64],
@@ -167,7 +166,6 @@ fn grands(pairs: &[u16], n: usize) -> usize
 
 // One of them, drawn.
 fn grandparent(s: Supply, pairs: &[u16], n: usize) -> DrawnNumber
-    requires { ⌜ n ≤ 4095 ⌝ }
     ensures { λ r. ⌜ r ≡ drawnNumber s (pick (grandparent n (pairsIn (now (pairs .entry)))) s) ⌝ }
 {
     let mut supply = s;
@@ -231,18 +229,11 @@ fn side(pairs: &[u16], heights: &[f64], g: usize, coin: bool) -> usize
     second
 }
 
-// Whether one node of n is internal: half of them are, rounded down.
-fn is_one_internal(n: usize) -> bool
-    ensures { λ r. ⌜ r ≡ oneInternal n ⌝ }
-{
-    n / 2 == 1
-}
-
 // Whether the exchange under the grandparent g is declined.
 fn narrow_declines(pairs: &[u16], heights: &[f64], n: usize, g: usize) -> bool
     ensures { λ r. ⌜ r ≡ narrowDeclines n (kinIn (now (pairs .entry)) (now (heights .entry))) g ⌝ }
 {
-    if is_one_internal(n) {
+    if calls::is_one_internal(n) {
         return true;
     }
     if reads::is_inner(n, taller(pairs, heights, g)) {
@@ -308,7 +299,7 @@ fn narrow_under(
 }
 
 // A grandparent and a side of its taller child are drawn, and that side and the uncle change places.
-pub fn narrow_exchange_turn(
+fn narrow_exchange_turn(
     pairs: &mut [u16],
     parents: &mut [u16],
     heights: &[f64],
@@ -319,7 +310,7 @@ pub fn narrow_exchange_turn(
     ensures { λ r. ⌜ after r (now (pairs .exit)) (now (parents .exit)) (now (heights .entry)) ≡ turnOf (treeOf (now (pairs .entry)) (now (parents .entry)) (now (heights .entry)) root) s (run (Programs.narrowExchange (treeOf (now (pairs .entry)) (now (parents .entry)) (now (heights .entry)) root)) s) ⌝ }
 {
     let n = pairs.len() / 2;
-    if is_one_internal(n) {
+    if calls::is_one_internal(n) {
         return Turn {
             turned: Turned::Declined,
             supply: s,

@@ -1,9 +1,9 @@
 -- The ways through NodeHeight: an internal node other than the root (`nonRootInternalLaws`), the taller child's height (`floorLaws`), a height for
 -- a node (`placeLaws`), and the turn (`nodeHeightLaws`). Assumes nothing.
 use mathlib.Core.Path.{_≡_}
-use mathlib.Core.Bool.{true, false, not}
+use mathlib.Core.Bool.{Bool, true, false, not}
 use mathlib.Core.List.{List}
-use Prim.Native.Nat.{ℕ, _-_, _<_}
+use Prim.Native.Nat.{ℕ, _<_}
 use lib.Dec.{eqb}
 use lib.ListN.{length, getD, set}
 use lib.Ieee.{Float, nan}
@@ -16,13 +16,13 @@ use Rattle.random.specs.Draw.{uniform, pick, run, drawnNumber, drawnReal}
 use Rattle.random.specs.DrawLaws.{draw-got, draw-spent, until-yields}
 use Rattle.random.specs.SupplyLaws.{number-got, number-spent}
 use Rattle.real.specs.Real.{maxOf}
-use Rattle.tree.specs.Tree.{Tree, nodesOf, tipsOf, firstIn, secondIn, parent, height}
+use Rattle.tree.specs.Tree.{Tree, nodesOf, firstIn, secondIn, parent, height}
 use Rattle.tree.specs.Valid.{Valid}
 use Rattle.tree.specs.Given.{treeOf, kinIn}
 use Rattle.edits.specs.Slots.{setHeight}
 use Rattle.edits.specs.NeedsLaws.{valid-height}
 use Rattle.rules.specs.Rules as Rules
-use Rattle.rules.specs.Rules.{floor}
+use Rattle.rules.specs.Rules.{oneInternal, floor}
 use Rattle.calls.specs.declared.Turned.the-variants as Turns
 use Rattle.calls.specs.declared.Height.{Height}
 use Rattle.calls.specs.declared.Height.the-variants as Heights
@@ -109,9 +109,10 @@ module _ (pairs parents : List ℕ) (heights : List Float) (root : ℕ) (s : Sup
   abbrev n : ℕ
   n = nodesOf pairs
 
-  pub turn-alone : n - tipsOf n ≡ 1 → afterOn Turns.Declined s t ≡ turnOf t s (run (nodeHeight t) s)
+  -- o is whether there is one internal node
+  pub turn-alone : (o : Bool) → o ≡ oneInternal n → o ≡ true → afterOn Turns.Declined s t ≡ turnOf t s (run (nodeHeight t) s)
   unfolding nodeHeight turnOf run
-  turn-alone h = rw (eq-eqb (n - tipsOf n) 1 h)
+  turn-alone o eo h = rw (← eo, h)
 
   -- d is the node that was drawn
   module _ (d : DrawnNumber) (e : d ≡ drawnNumber s (pick (nonRootInternal n root) s)) where
@@ -121,13 +122,13 @@ module _ (pairs parents : List ℕ) (heights : List Float) (root : ℕ) (s : Sup
         let p = until-yields (Internal n) (λ k. not (eqb k root)) (internal n) (internal-yields n (v .sized .odd)) s (d .value) (d .supply) (number-got s d _ e f) in
         valid-height v (d .value) (p .1 .node)
 
-    module _ (h : n - tipsOf n ≡ 1 → ⊥) where
+    module _ (o : Bool) (eo : o ≡ oneInternal n) (h : o ≡ false) where
       pub turn-spent : d .ok ≡ false → afterOn Turns.Spent s t ≡ turnOf t s (run (nodeHeight t) s)
       unfolding nodeHeight turnOf nonRootInternal
-      turn-spent f = rw (ne-eqb (n - tipsOf n) 1 h, draw-spent _ _ s (number-spent s d _ e f))
+      turn-spent f = rw (← eo, h, draw-spent _ _ s (number-spent s d _ e f))
 
       pub turn-placed : d .ok ≡ true → (a : After) → a ≡ turnOf t s (run (placing t (d .value)) (d .supply)) → a ≡ turnOf t s (run (nodeHeight t) s)
       unfolding nodeHeight nonRootInternal placing
-      turn-placed f a q = rw (q, ne-eqb (n - tipsOf n) 1 h, draw-got _ _ s (d .value) (d .supply) (number-got s d _ e f))
+      turn-placed f a q = rw (q, ← eo, h, draw-got _ _ s (d .value) (d .supply) (number-got s d _ e f))
 
 pub ruleset nodeHeightLaws = (turn-alone, turn-node, turn-spent, turn-placed)

@@ -27,7 +27,6 @@ use tree::Verdict;
 
 // An internal node of n other than the root.
 fn non_root_internal(s: Supply, n: usize, root: usize) -> DrawnNumber
-    requires { ⌜ n ≤ 4095 ⌝ }
     ensures { λ r. ⌜ r ≡ drawnNumber s (pick (nonRootInternal n root) s) ⌝ }
 {
     let mut supply = s;
@@ -104,7 +103,7 @@ fn place(
 }
 
 // An internal node other than the root takes a height from its taller child's to its parent's.
-pub fn node_height_turn(
+fn node_height_turn(
     pairs: &[u16],
     parents: &[u16],
     heights: &mut [f64],
@@ -115,7 +114,7 @@ pub fn node_height_turn(
     ensures { λ r. ⌜ after r (now (pairs .entry)) (now (parents .entry)) (now (heights .exit)) ≡ turnOf (treeOf (now (pairs .entry)) (now (parents .entry)) (now (heights .entry)) root) s (run (Programs.nodeHeight (treeOf (now (pairs .entry)) (now (parents .entry)) (now (heights .entry)) root)) s) ⌝ }
 {
     let n = pairs.len() / 2;
-    if n - (n + 1) / 2 == 1 {
+    if calls::is_one_internal(n) {
         return Turn {
             turned: Turned::Declined,
             supply: s,
@@ -174,7 +173,7 @@ fn check_tuned(
 }
 
 // The root's height times a drawn factor; declined where that is under a child.
-pub fn root_scale_turn(
+fn root_scale_turn(
     pairs: &[u16],
     parents: &[u16],
     heights: &mut [f64],
@@ -277,7 +276,7 @@ fn tree_scale_ratio(n: usize, f: f64) -> Ratio
 }
 
 // Every internal height times a drawn factor. No height is above the root's, so that every product is finite where the root's is.
-pub fn tree_scale_turn(
+fn tree_scale_turn(
     pairs: &[u16],
     parents: &[u16],
     heights: &mut [f64],

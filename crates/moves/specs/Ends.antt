@@ -19,7 +19,7 @@ use Rattle.moves.specs.Moves.{Move, nodeHeight, subtreeSlide, narrowExch
 abbrev pub treeAfter : Called → ℕ → Tree
 treeAfter c root = treeOf (c .pairs) (c .parents) (c .heights) root
 
--- "ends as moved, as declined, or in refusal 6, 7 or 8"
+-- moved, declined, or refused with 6, 7 or 8
 pub data Ends : Answer → Type 0 where
   moves : (v : Moved) → Ends (Answers.Moved v)
   declines : (draws : ℕ) → Ends (Answers.Declined draws)

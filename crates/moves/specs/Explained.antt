@@ -62,10 +62,11 @@ pub record Slides (i : ℕ) (step : Float) (t u : Tree) (r : Ratio) : Type 0 whe
   pub index : ℕ
   pub makes : Makes Reversibles.SubtreeSlide t (record { node = i; height = slideHeight t i step; index = index }) u r
 
--- a factor makes of t the tree u with the ratio r
+-- a factor makes of t the tree u with the ratio r, and every new height is finite
 pub record RootScales (s : Float) (t u : Tree) (r : Ratio) : Type 0 where
   pub factor : Float
   pub drawn : Factor s factor
+  pub number : finite (Rules.rootHeight t factor) ≡ true
   pub free : Rules.rootScaleDeclines t factor ≡ false
   pub tree : Rules.rootScaled t factor ≡ u
   pub ratio : Rules.rootScaleRatio factor ≡ r
@@ -73,6 +74,7 @@ pub record RootScales (s : Float) (t u : Tree) (r : Ratio) : Type 0 where
 pub record TreeScales (s : Float) (t u : Tree) (r : Ratio) : Type 0 where
   pub factor : Float
   pub drawn : Factor s factor
+  pub number : (k : ℕ) → k < nodesOf (t .pairs) → overflows (nodesOf (t .pairs)) t factor k ≡ false
   pub tree : Rules.treeScaled (nodesOf (t .pairs)) t factor ≡ u
   pub ratio : Rules.treeScaleRatio (nodesOf (t .pairs)) factor ≡ r
 

@@ -9,7 +9,7 @@ use lib.Dec.{T, eqb, ltb}
 use lib.ListN.{length}
 use lib.Ieee.{Float}
 use lib.Ieee.Scale.{finite}
-use borrow.Author.Tests.{ltb-true}
+use borrow.Author.Tests.{ltb-true, ltb-false}
 use Rattle.answer.specs.declared.Ratio.the-variants.{Even}
 use Rattle.random.specs.Draw.{until, below, coin, run}
 use Rattle.random.specs.Lawful.{Yields}
@@ -213,7 +213,7 @@ module _ (t : Tree) (v : Valid (nodesOf (t .pairs)) t) where
           (λ e. is-infinite (record { node = refl; factor = f; drawn = d; infinite = not-true (finite (Rules.rootHeight t f)) e }))
           (λ e. cond-holds (λ (o : Outcome). Q (makes o)) (Rules.rootScaleDeclines t f) {x = declined} {y = moved (Rules.rootScaled t f) (Rules.rootScaleRatio f)}
           (λ k. is-declined (record { factor = f; drawn = d; declines = k }))
-          (λ k. is-moved (record { factor = f; drawn = d; free = k; tree = refl; ratio = refl })))
+          (λ k. is-moved (record { factor = f; drawn = d; number = not-false (finite (Rules.rootHeight t f)) e; free = k; tree = refl; ratio = refl })))
 
   -- ---- TreeScale
 
@@ -241,10 +241,17 @@ module _ (t : Tree) (v : Valid (nodesOf (t .pairs)) t) where
             infinite = least-holds (overflows n t f) n h;
             lowest = λ j q. least-below (overflows n t f) n j (omega arith) q;
           })))
-          (λ e. is-moved (record { factor = f; drawn = d; tree = refl; ratio = refl }))
+          (λ e. is-moved (record {
+            factor = f;
+            drawn = d;
+            number = λ j h. (let z = ltb-false k n e in least-below (overflows n t f) n j h (omega arith));
+            tree = refl;
+            ratio = refl;
+          }))
 
 -- ---- all of them
 
+-- what the program of a move ends in is explained by its rule
 pub explained : (m : Move) (t : Tree) → Valid (nodesOf (t .pairs)) t → limits m t ≡ true → Yields (Explained m t) (run (program m t))
 explained nodeHeight t v l = height-explained t v
 explained (subtreeSlide i step) t v l = slide-explained t v i step l

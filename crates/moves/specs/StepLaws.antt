@@ -19,18 +19,22 @@ cond-holds P true h k = h refl
 cond-holds P false h k = k refl
 
 module _ {A : Type 0} (Q : A → Type 0) where
+  -- one of two ways
   pub cond-yields : (b : Bool) (d e : Draw A) → (b ≡ true → Yields Q (run d)) → (b ≡ false → Yields Q (run e)) → Yields Q (run (cond b d e))
   cond-yields b d e h k = cond-holds (λ (x : Draw A). Yields Q (run x)) b {x = d} {y = e} h k
 
+  -- a number, and what follows it
   pub number-yields : {P : ℕ → Type 0} (d : Number) (f : ℕ → Draw A) → Yields P (pick d) → ((k : ℕ) → P k → Yields Q (run (f k))) → Yields Q (run (draw d >>= f))
   unfolding draw _>>=_
   number-yields {P} d f y h = draws-yields P Q d f y h
 
+  -- a uniform taken for a factor
   pub factor-yields : (s : Float) (f : Float → A) → ((x : Float) → Factor s x → Q (f x)) → Yields Q (run (uniform >>= (λ u. return (f (scaler s u)))))
   factor-yields s f h =
       bind-yields UnitFraction Q uniform (λ u. return (f (scaler s u))) uniform-yields
       (λ u p. return-yields Q (f (scaler s u)) (h (scaler s u) (record { uniform = u; unit = p; is = refl })))
 
+-- a height in an interval, inside or outside
 pub height-yields : (Q : Reply Outcome → Type 0) (k : ℕ) (lower upper : Float) (make : Float → Outcome)
     → ((x : Float) → Between lower upper x → within lower x upper ≡ true → Q (makes (make x)))
     → ((x : Float) → Between lower upper x → within lower x upper ≡ false → Q (outside k))

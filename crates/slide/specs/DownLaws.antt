@@ -10,6 +10,7 @@ use Rattle.accepted.specs.WayLaws.{valid-linked, not-under}
 use Rattle.reversal.specs.FamilyLaws.{sibling-is}
 use Rattle.reversal.specs.BranchLaws.{Branch}
 
+-- the lower node of a branch under the sibling is not P
 pub down-apart : {n : ℕ} {t : Tree} → Valid n t → {i : ℕ} → i < n → i ≢ t .root → {x : Float} {j : ℕ} → Branch n t x (sibling t i) j → j ≢ parent t i
 down-apart {n} {t} v {i} I r {x} {j} b e =
     let s = sibling-is (valid-linked v) i I r in

@@ -239,7 +239,7 @@ fn slide_down(
 }
 
 // The second call's turn: the node's parent slides by the step.
-pub fn subtree_slide_turn(
+fn subtree_slide_turn(
     pairs: &mut [u16],
     parents: &mut [u16],
     heights: &mut [f64],

@@ -235,7 +235,7 @@ fn wilson_onto(
 }
 
 // A node's parent goes onto another branch, all three drawn: the node, the branch and the height there.
-pub fn wilson_balding_turn(
+fn wilson_balding_turn(
     pairs: &mut [u16],
     parents: &mut [u16],
     heights: &mut [f64],

@@ -1,14 +1,11 @@
 -- `heights::node_height_turn` meets its contract. Assumes nothing.
 use borrow.Author.Needs.{needs}
-use Rattle.heights.proofs.NodeHeightLaws.{nodeHeightLaws, turn-spent}
+use Rattle.heights.proofs.NodeHeightLaws.{nodeHeightLaws}
 use Rattle.heights.proofs.node_height_turn.Statement.{statement}
 use Rattle.heights.proofs.node_height_turn.Tie as tie
 
-add-if1 : tie.Need-add-if1
-add-if1 c = search (nodeHeightLaws, needs)
-
-sub-if1 : tie.Need-sub-if1
-sub-if1 c = search (nodeHeightLaws, needs)
+is-one-internal-requires : tie.Need-is-one-internal-requires
+is-one-internal-requires c κs = search (nodeHeightLaws, needs)
 
 returns : tie.Need-returns
 returns c = search (nodeHeightLaws, needs)
@@ -26,14 +23,13 @@ returns-2 : tie.Need-returns-2
 returns-2 c = search (nodeHeightLaws, needs)
 
 returns-3 : tie.Need-returns-3
-returns-3 c = let d = c .before .before .non-root-internal in turn-spent _ _ _ _ _ (d .result) (d .ensures) (c .before .before .before .if1 .left) (c .if2 .left)
+returns-3 c = search (nodeHeightLaws, needs)
 
 pub node-height-turn-spec : {M : Type 1} → statement M
 node-height-turn-spec =
     tie.close
     (tie.spec
-    add-if1
-    sub-if1
+    is-one-internal-requires
     returns
     non-root-internal-requires
     place-requires
