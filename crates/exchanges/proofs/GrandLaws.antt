@@ -19,7 +19,8 @@ use Rattle.tree.specs.Given.{kinIn}
 use Rattle.rules.specs.Rules.{oneInternal, grand, grands, narrowDeclines}
 use Rattle.calls.specs.Draws.{internal}
 use Rattle.calls.specs.RedrawLaws.{redraw-fewer, redraw-spent, redraw-taken, redraw-passed}
-use Rattle.exchanges.specs.Given.{grandparent, pairsIn, tallerIn, sideIn, uncleIn}
+use Rattle.exchanges.specs.Given.{pairsIn, tallerIn, sideIn, uncleIn}
+use Rattle.moves.specs.Programs.{grandparent}
 
 -- ---- the test
 

@@ -23,10 +23,10 @@ use Rattle.rules.specs.Rules.{oneInternal, grand, grands, taller, uncle, sideOf
 use Rattle.calls.specs.declared.Turn.{Turn}
 use Rattle.calls.specs.declared.Turned.the-variants as Turns
 use Rattle.calls.specs.Draws.{internal}
-use Rattle.moves.specs.Programs.{narrowExchange}
+use Rattle.moves.specs.Programs.{narrowExchange, grandparent, narrowUnder}
 use Rattle.calls.specs.Given.{After, after, turnOf}
 use Rattle.calls.specs.YieldLaws.{Internal, internal-yields}
-use Rattle.exchanges.specs.Given.{grandparent, pairsIn, tallerIn, sideIn, uncleIn, narrowUnder, narrowTurn, Under, Narrows}
+use Rattle.exchanges.specs.Given.{pairsIn, tallerIn, sideIn, uncleIn, narrowTurn, AtInner, Narrows}
 
 -- ---- what is read
 
@@ -129,7 +129,7 @@ module _ (pairs parents : List ℕ) (heights : List Float) (root g : ℕ) (b : B
   under-declined y s u = rw (declines, y)
 
   module _ (y : b ≡ false) where
-    pub under-narrows : Under (nodesOf pairs) (treeOf pairs parents heights root) g → Narrows (nodesOf pairs) (treeOf pairs parents heights root) g
+    pub under-narrows : AtInner (nodesOf pairs) (treeOf pairs parents heights root) g → Narrows (nodesOf pairs) (treeOf pairs parents heights root) g
     under-narrows w = record { under = w; parent = taller-inner (nodesOf pairs) (treeOf pairs parents heights root) g (declines ∙ y) }
 
     module _ (s u : Supply) (c : DrawnSide) (ec : c ≡ drawnSide u (run coin u)) where
@@ -170,7 +170,7 @@ module _ (pairs parents : List ℕ) (heights : List Float) (root : ℕ) (s : Sup
       drawn : pick (grandparent n given) s ≡ got (a .value) (a .supply)
       drawn = rw (← same) (number-got s a _ ea h)
 
-      pub turn-under : Valid (nodesOf pairs) (treeOf pairs parents heights root) → Under (nodesOf pairs) (treeOf pairs parents heights root) (a .value)
+      pub turn-under : Valid (nodesOf pairs) (treeOf pairs parents heights root) → AtInner (nodesOf pairs) (treeOf pairs parents heights root) (a .value)
       unfolding grandparent
       turn-under v =
           let g = until-yields (Internal n) (grand n given) (internal n) (internal-yields n (v .sized .odd)) s (a .value) (a .supply) drawn .1 in

@@ -24,11 +24,10 @@ use Rattle.rules.specs.Rules.{wideDeclines, widened}
 use Rattle.calls.specs.declared.Turned.the-variants as Turns
 use Rattle.calls.specs.Call.{makes, declined, moved}
 use Rattle.calls.specs.Draws.{nonRoot}
-use Rattle.moves.specs.Programs.{wideExchange}
+use Rattle.moves.specs.Programs.{wideExchange, apart}
 use Rattle.calls.specs.Given.{After, after, turnOf}
 use Rattle.calls.specs.RedrawLaws.{redraw-fewer, redraw-spent, redraw-taken, redraw-passed}
 use Rattle.calls.specs.YieldLaws.{NonRoot, non-root-yields}
-use Rattle.exchanges.specs.Given.{apart}
 
 -- ---- a node other than the root and i
 

@@ -10,7 +10,8 @@ ghost use Rattle.calls.specs.Call.{called};
 ghost use Rattle.moves.specs.Programs as Programs;
 ghost use Rattle.moves.specs.Moves.{moveCall, narrowExchange, wideExchange};
 ghost use Rattle.calls.specs.Given.{after, turnOf};
-ghost use Rattle.exchanges.specs.Given.{apart, grandparent, pairsIn, tallerIn, sideIn, uncleIn, narrowUnder, narrowTurn, Under, Narrows};
+ghost use Rattle.exchanges.specs.Given.{pairsIn, tallerIn, sideIn, uncleIn, narrowTurn, AtInner, Narrows};
+ghost use Rattle.moves.specs.Programs.{apart, grandparent, narrowUnder};
 use answer::Ratio;
 use calls::Answered;
 use calls::Turn;
@@ -277,7 +278,7 @@ fn narrow_under(
     drawn: Supply,
     s: Supply,
 ) -> Turn
-    requires { ⌜ Under (nodesOf (now pairs)) (treeOf (now pairs) (now parents) (now heights) root) g ⌝ }
+    requires { ⌜ AtInner (nodesOf (now pairs)) (treeOf (now pairs) (now parents) (now heights) root) g ⌝ }
     ensures { λ r. ⌜ after r (now (pairs .exit)) (now (parents .exit)) (now (heights .entry)) ≡ turnOf (treeOf (now (pairs .entry)) (now (parents .entry)) (now (heights .entry)) root) s (run (narrowUnder (nodesOf (now (pairs .entry))) (treeOf (now (pairs .entry)) (now (parents .entry)) (now (heights .entry)) root) g) drawn) ⌝ }
 {
     let n = pairs.len() / 2;

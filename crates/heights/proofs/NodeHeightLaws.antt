@@ -28,11 +28,10 @@ use Rattle.calls.specs.declared.Height.{Height}
 use Rattle.calls.specs.declared.Height.the-variants as Heights
 use Rattle.calls.specs.Call.{Outcome, moved}
 use Rattle.calls.specs.Draws.{internal}
-use Rattle.moves.specs.Programs.{nodeHeight}
+use Rattle.moves.specs.Programs.{nodeHeight, nonRootInternal, placing}
 use Rattle.calls.specs.Given.{After, afterOn, turnOf, heightOf}
 use Rattle.calls.specs.RedrawLaws.{redraw-fewer, redraw-spent, redraw-taken, redraw-passed}
 use Rattle.calls.specs.YieldLaws.{Internal, internal-yields}
-use Rattle.heights.specs.Given.{nonRootInternal, placing}
 use Rattle.calls.specs.HeightLaws.{height-spent, height-inside, height-outside}
 
 -- ---- an internal node other than the root

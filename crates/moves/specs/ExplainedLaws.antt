@@ -48,7 +48,7 @@ module _ (t : Tree) (v : Valid (nodesOf (t .pairs)) t) where
   -- ---- NodeHeight
 
   height-explained : Yields (Explained nodeHeight t) (run (Programs.nodeHeight t))
-  unfolding Programs.nodeHeight
+  unfolding Programs.nodeHeight Programs.nonRootInternal Programs.placing
   height-explained =
       cond-yields Q (Rules.nodeHeightDeclines n) _ _ (λ e. return-yields Q _ (is-declined e))
       (λ e. number-yields Q (until (λ k. not (eqb k (t .root))) (internal n)) _
@@ -72,7 +72,7 @@ module _ (t : Tree) (v : Valid (nodesOf (t .pairs)) t) where
   -- ---- SubtreeSlide
 
   slide-explained : (i : ℕ) (step : Float) → slidable t i step ≡ true → Yields (Explained (subtreeSlide i step) t) (run (Programs.subtreeSlide i step t))
-  unfolding Programs.subtreeSlide
+  unfolding Programs.subtreeSlide Programs.slideAt
   slide-explained i step l =
       cond-yields Q (not (finite x)) _ _ (λ e. return-yields Q _ (is-infinite (refl, not-true (finite x) e)))
       (λ e. cond-yields Q (Rules.slideDeclines n t i x) _ _ (λ d. return-yields Q _ (is-declined d))
@@ -112,7 +112,7 @@ module _ (t : Tree) (v : Valid (nodesOf (t .pairs)) t) where
   -- ---- NarrowExchange
 
   narrow-explained : Yields (Explained narrowExchange t) (run (Programs.narrowExchange t))
-  unfolding Programs.narrowExchange
+  unfolding Programs.narrowExchange Programs.grandparent Programs.narrowUnder
   narrow-explained =
       cond-yields Q (oneInternal n) _ _ (λ e. return-yields Q _ (is-declined (inl e)))
       (λ e. number-yields Q (until (Rules.grand n t) (internal n)) _
@@ -134,7 +134,7 @@ module _ (t : Tree) (v : Valid (nodesOf (t .pairs)) t) where
   -- ---- WideExchange
 
   wide-explained : Yields (Explained wideExchange t) (run (Programs.wideExchange t))
-  unfolding Programs.wideExchange
+  unfolding Programs.wideExchange Programs.apart
   wide-explained =
       number-yields Q (nonRoot n (t .root)) _ (non-root-yields n (t .root))
       (λ i p. number-yields Q (until (λ j. not (eqb j i)) (nonRoot n (t .root))) _
@@ -156,7 +156,7 @@ module _ (t : Tree) (v : Valid (nodesOf (t .pairs)) t) where
   -- ---- WilsonBalding
 
   wilson-explained : Yields (Explained wilsonBalding t) (run (Programs.wilsonBalding t))
-  unfolding Programs.wilsonBalding
+  unfolding Programs.wilsonBalding Programs.hosting Programs.host Programs.onto
   wilson-explained =
       number-yields Q (nonRoot n (t .root)) _ (non-root-yields n (t .root))
       (λ i p. number-yields Q (until (λ j. not (eqb j i) && Rules.hosts t i j) (below n)) _

@@ -209,7 +209,8 @@ pub call-rows : CallRows
 unfolding treeCall leaves callOf checked ended validated judged scanned scan visit thenAdopt adopt joined roots subtree agree misdated lowest
     run pick onward wordFrom untilFrom uniform coin draw _>>=_ below fair wordOf next output step stepped rotl uniformOf firstSide
     nonRoot internal scaler interpolated drawnHeight least
-    Programs.nodeHeight Programs.slideStart Programs.subtreeSlide Programs.narrowExchange Programs.wideExchange Programs.wilsonBalding Programs.rootScale Programs.treeScale
+    Programs.nonRootInternal Programs.placing Programs.nodeHeight Programs.slideStart Programs.slideAt Programs.subtreeSlide
+    Programs.grandparent Programs.narrowUnder Programs.narrowExchange Programs.apart Programs.wideExchange Programs.hosting Programs.host Programs.onto Programs.wilsonBalding Programs.rootScale Programs.treeScale
     Rules.slideDeclines Rules.narrowDeclines Rules.wideDeclines Rules.wilsonDeclines Rules.rootScaleDeclines
     Rules.climb Rules.crossing Rules.slideTo Rules.slid Rules.slideRatio Rules.narrowed Rules.grand Rules.grands Rules.narrowRatio
     Rules.newRange Rules.oldRange Rules.regraft Rules.scaledTo swap rotate setHeight put slotOf owner parent height sibling

@@ -24,7 +24,7 @@ use Rattle.moves.specs.Programs as Programs
 use Rattle.moves.specs.Programs.{slidable}
 use Rattle.moves.specs.Moves.{subtreeSlide, moveCall}
 use Rattle.calls.specs.EntryLaws.{passed, entry-refused, entry-left, entry-done}
-use Rattle.slide.specs.Slide.{Slides}
+use Rattle.slide.specs.Slide.{Slidable}
 
 -- ---- the limits
 
@@ -57,7 +57,7 @@ module _ (pairs parents : List ℕ) (heights : List Float) (root i : ℕ) (step 
   call-refused why y g r er = entry-refused (slidable t i step) pairs parents heights root allowance v is-checked g (Programs.subtreeSlide i step t) why y r er
 
   module _ (y : v ≡ Verdicts.Fine) where
-    pub call-slides : Slides pairs parents heights root i
+    pub call-slides : Slidable pairs parents heights root i
     call-slides =
         let c = passed limits t allowance (sym ev ∙ y) in
         let p = and-eq-true-iff (ltb i (nodesOf pairs) && not (eqb i root)) (finite step) .0 (sym el ∙ c .within) in

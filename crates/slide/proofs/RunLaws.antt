@@ -19,8 +19,7 @@ use Rattle.reversal.specs.SlideWayLaws.{Slides, slid-only, ratio-only, slid-ont
 use Rattle.calls.specs.declared.Turned.the-variants as Turns
 use Rattle.calls.specs.Call.{makes, declined}
 use Rattle.calls.specs.Given.{After, afterOn, turnOf}
-use Rattle.moves.specs.Programs.{slides}
-use Rattle.slide.specs.Slide.{slideAt}
+use Rattle.moves.specs.Programs.{slides, slideAt}
 
 -- ---- what it gives
 

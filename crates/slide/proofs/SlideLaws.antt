@@ -31,9 +31,9 @@ use Rattle.branches.specs.Walk.{counted, picked}
 use Rattle.branches.specs.WalkLaws.{counted-is, picked-is, picked-branch, counted-bare, picked-bare, climb-bare}
 use Rattle.calls.specs.declared.Turned.the-variants as Turns
 use Rattle.calls.specs.Given.{After, afterOn, turnOf}
-use Rattle.moves.specs.Programs.{subtreeSlide}
+use Rattle.moves.specs.Programs.{subtreeSlide, slideAt}
 use Rattle.grafts.specs.Given.{Regrafts}
-use Rattle.slide.specs.Slide.{Slides, Goes, Lowers, slideAt}
+use Rattle.slide.specs.Slide.{Slidable, Goes, Lowers}
 use Rattle.slide.specs.UpLaws.{up-grafts, up-valid, up-not-below}
 use Rattle.slide.specs.DownLaws.{down-apart}
 use Rattle.slide.proofs.RunLaws.{runs-up, runs-above, runs-level, runs-none, runs-spent, runs-under, kept, lifted, lowered}
@@ -61,7 +61,7 @@ module _ (pairs parents : List ℕ) (heights : List Float) (root i : ℕ) where
 
   -- ---- what every way has
 
-  module _ (g : Slides pairs parents heights root i) where
+  module _ (g : Slidable pairs parents heights root i) where
     parent-node : parent t i < n
     parent-node = g .valid .below i (g .node) (g .under) .parent-node
 
@@ -151,7 +151,7 @@ module _ (pairs parents : List ℕ) (heights : List Float) (root i : ℕ) where
   -- k is the sibling, and count how many branches are under it
   module _ (x : Float) (g : Lowers pairs parents heights root i x) (p : ℕ) (ep : p ≡ getD parents i 0) (k : ℕ) (ek : k ≡ otherIn pairs p i)
       (count : ℕ) (ec : count ≡ counted (treeOf pairs [] heights 0) x k) (s : Supply) where
-    abbrev on : Slides pairs parents heights root i
+    abbrev on : Slidable pairs parents heights root i
     on = g .goes .slides
 
     abbrev list : List ℕ
@@ -254,7 +254,7 @@ module _ (pairs parents : List ℕ) (heights : List Float) (root i : ℕ) where
   -- ---- the turn
 
   -- old is p's height, and b whether the new one is finite
-  module _ (step : Float) (g : Slides pairs parents heights root i) (p : ℕ) (ep : p ≡ getD parents i 0) (old : Float) (eo : old ≡ getD heights p nan)
+  module _ (step : Float) (g : Slidable pairs parents heights root i) (p : ℕ) (ep : p ≡ getD parents i 0) (old : Float) (eo : old ≡ getD heights p nan)
       (b : Bool) (eb : b ≡ finite (add binary64 old step)) where
     before : old ≡ height t (parent t i)
     before = is-height g p ep old eo

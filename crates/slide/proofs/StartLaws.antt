@@ -22,7 +22,7 @@ use Rattle.calls.specs.Call.{Reply, makes, notFinite, outside, refused, ended, 
 use Rattle.calls.specs.Draws.{nonRoot}
 use Rattle.moves.specs.Programs.{Start, slideStart}
 use Rattle.moves.specs.Moves.{startCall}
-use Rattle.slide.specs.declared.Begun.the-variants as Answers
+use Rattle.slide.specs.declared.Begun.the-variants as Begun
 use Rattle.slide.specs.declared.Started.{Started}
 use Rattle.slide.specs.declared.DrawnStart.{DrawnStart}
 use Rattle.slide.specs.Started.{startedOf, spentStart, drawnStart}
@@ -115,7 +115,7 @@ module _ (pairs parents : List ℕ) (heights : List Float) (root : ℕ) (g : Ran
     start-out h r er = rw (← ev, y, start-spent (supplyOf g allowance) d (treeOf pairs [] [] root) _ refl ed h) er
 
     pub start-drawn : d .ok ≡ true
-        → record { answer = Answers.Node (record { node = d .node; first = d .first; second = d .second; draws = allowance - d .supply .left }); random = d .supply .random }
+        → record { answer = Begun.Node (record { node = d .node; first = d .first; second = d .second; draws = allowance - d .supply .left }); random = d .supply .random }
         ≡ startedOf g (startCall (treeOf pairs parents heights root) g allowance)
     unfolding callOf ended slideStart
     start-drawn h = rw (← ev, y, start-got (supplyOf g allowance) d _ ed h)

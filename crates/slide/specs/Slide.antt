@@ -1,32 +1,26 @@
--- What the code of a slide's second call asks, and the slide to a height that is finite (`slideAt`). t is a tree in lent slices, i the node, and P its
--- parent. Definitions only. Assumes nothing.
+-- What the code of a slide's second call asks. i is the node, and P its parent. Definitions only. Assumes nothing.
 use mathlib.Core.Path.{_≡_}
 use mathlib.Core.Logic.{_≢_}
-use mathlib.Core.Bool.{Bool, true, false, cond}
+use mathlib.Core.Bool.{Bool, true, false}
 use mathlib.Core.List.{List}
 use Prim.Native.Nat.{ℕ, _<_}
-use lib.ListN.{length}
 use lib.Ieee.{Float, lt}
 use lib.Ieee.Scale.{finite}
-use Rattle.random.specs.Draw.{Draw, return, draw, _>>=_, below}
-use Rattle.tree.specs.Tree.{Tree, nodesOf, height, sibling}
+use Rattle.tree.specs.Tree.{nodesOf, height, sibling}
 use Rattle.tree.specs.Valid.{Valid}
 use Rattle.tree.specs.Given.{treeOf}
-use Rattle.rules.specs.Rules.{rises, lowers, branches, slideDeclines}
-use Rattle.calls.specs.Call.{Reply, makes, Outcome, declined}
+use Rattle.rules.specs.Rules.{rises}
 use Rattle.moves.specs.Programs.{slides}
 
--- ---- what is asked
-
 -- the tree is valid, and i is one of its nodes that has a parent
-pub record Slides (pairs parents : List ℕ) (heights : List Float) (root i : ℕ) : Type 0 where
+pub record Slidable (pairs parents : List ℕ) (heights : List Float) (root i : ℕ) : Type 0 where
   pub valid : Valid (nodesOf pairs) (treeOf pairs parents heights root)
   pub node : i < nodesOf pairs
   pub under : i ≢ root
 
 -- P's new height x is finite, and above the old one or not
 pub record Goes (up : Bool) (pairs parents : List ℕ) (heights : List Float) (root i : ℕ) (x : Float) : Type 0 where
-  pub slides : Slides pairs parents heights root i
+  pub slides : Slidable pairs parents heights root i
   pub number : finite x ≡ true
   pub way : rises (treeOf pairs parents heights root) i x ≡ up
 
@@ -35,13 +29,3 @@ pub record Lowers (pairs parents : List ℕ) (heights : List Float) (root i : �
   pub goes : Goes false pairs parents heights root i x
   pub over : lt x (height (treeOf pairs parents heights root) i) ≡ false
   pub past : lt x (height (treeOf pairs parents heights root) (sibling (treeOf pairs parents heights root) i)) ≡ true
-
--- ---- the program
-
--- the slide to the height x
-unfoldable pub slideAt : ℕ → Float → Tree → Draw (Reply Outcome)
-slideAt i x t =
-    let n = nodesOf (t .pairs) in
-    cond (slideDeclines n t i x) (return (makes declined)) (cond (lowers t i x) (do
-      index ← draw (below (length (branches n t x (sibling t i))))
-      return (makes (slides n t i x index))) (return (makes (slides n t i x 0))))

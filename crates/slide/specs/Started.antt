@@ -6,14 +6,14 @@ use Rattle.random.specs.declared.Supply.{Supply}
 use Rattle.random.specs.Draw.{Drawn, spent, got}
 use Rattle.calls.specs.Call.{Reply, makes, notFinite, outside, Ending, refused, given}
 use Rattle.moves.specs.Programs.{Start}
-use Rattle.slide.specs.declared.Begun.the-variants as Answers
+use Rattle.slide.specs.declared.Begun.the-variants as Begun
 use Rattle.slide.specs.declared.Started.{Started}
 use Rattle.slide.specs.declared.DrawnStart.{DrawnStart}
 
 -- how the call ended: turned back, with the generator g as it came; or with a node, its uniforms and the draws made
 abbrev pub startedOf : Random → Ending Start → Started
-startedOf g (refused why) = record { answer = Answers.Refused why; random = g }
-startedOf g (given s draws h) = record { answer = Answers.Node (record { node = s .node; first = s .first; second = s .second; draws = draws }); random = h }
+startedOf g (refused why) = record { answer = Begun.Refused why; random = g }
+startedOf g (given s draws h) = record { answer = Begun.Node (record { node = s .node; first = s .first; second = s .second; draws = draws }); random = h }
 
 -- where the draws are spent, the supply as it came
 abbrev pub spentStart : Supply → DrawnStart

@@ -6,12 +6,12 @@ ghost use mathlib.Core.List.{[]};
 ghost use Rattle.random.specs.Draw.{run};
 ghost use Rattle.tree.specs.Given.{treeOf};
 ghost use Rattle.moves.specs.Programs as Programs;
-ghost use Rattle.moves.specs.Programs.{slideStart, slidable};
+ghost use Rattle.moves.specs.Programs.{slideStart, slidable, slideAt};
 ghost use Rattle.calls.specs.Call.{refused, called};
 ghost use Rattle.moves.specs.Moves.{startCall, moveCall, subtreeSlide};
 ghost use Rattle.calls.specs.Given.{after, turnOf};
 ghost use Rattle.slide.specs.Started.{startedOf, spentStart, drawnStart};
-ghost use Rattle.slide.specs.Slide.{Slides, Goes, Lowers, slideAt};
+ghost use Rattle.slide.specs.Slide.{Slidable, Goes, Lowers};
 use answer::Ratio;
 use answer::Refusal;
 use calls::Answered;
@@ -248,7 +248,7 @@ fn subtree_slide_turn(
     step: f64,
     s: Supply,
 ) -> Turn
-    requires { ⌜ Slides (now pairs) (now parents) (now heights) root node ⌝ }
+    requires { ⌜ Slidable (now pairs) (now parents) (now heights) root node ⌝ }
     ensures { λ r. ⌜ after r (now (pairs .exit)) (now (parents .exit)) (now (heights .exit)) ≡ turnOf (treeOf (now (pairs .entry)) (now (parents .entry)) (now (heights .entry)) root) s (run (Programs.subtreeSlide node step (treeOf (now (pairs .entry)) (now (parents .entry)) (now (heights .entry)) root)) s) ⌝ }
 {
     let p = reads::parent(parents, node);

@@ -12,7 +12,7 @@ use Rattle.random.specs.Draw.{below, pick, drawnNumber}
 use Rattle.tree.specs.Tree.{Tree, parent, height}
 use Rattle.tree.specs.Given.{datesIn}
 use Rattle.calls.specs.RedrawLaws.{redraw-fewer, redraw-spent, redraw-taken, redraw-passed}
-use Rattle.wilson.specs.Given.{hosting, host}
+use Rattle.moves.specs.Programs.{hosting, host}
 
 -- ---- the test
 

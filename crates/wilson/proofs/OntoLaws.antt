@@ -21,11 +21,11 @@ use Rattle.rules.specs.Rules.{regraft, range, newRange, oldRange, wilsonDecline
 use Rattle.calls.specs.declared.Height.{Height}
 use Rattle.calls.specs.declared.Height.the-variants as Heights
 use Rattle.calls.specs.declared.Turned.the-variants as Turns
-use Rattle.moves.specs.Programs.{wilsonHeight}
+use Rattle.moves.specs.Programs.{wilsonHeight, onto}
 use Rattle.calls.specs.Given.{After, after, turnOf, heightOf}
 use Rattle.calls.specs.HeightLaws.{height-spent, height-inside, height-outside}
 use Rattle.grafts.specs.Given.{Regrafts}
-use Rattle.wilson.specs.Given.{barred, rangesOf, branchHeight, onto, Ranged}
+use Rattle.wilson.specs.Given.{barred, rangesOf, branchHeight, Ranged}
 use Rattle.wilson.specs.declared.Ranges.{Ranges}
 
 -- ---- the nodes

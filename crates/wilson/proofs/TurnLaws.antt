@@ -14,11 +14,10 @@ use Rattle.tree.specs.Valid.{Valid}
 use Rattle.tree.specs.Given.{treeOf, datesIn}
 use Rattle.calls.specs.declared.Turned.the-variants as Turns
 use Rattle.calls.specs.Draws.{nonRoot}
-use Rattle.moves.specs.Programs.{wilsonBalding}
+use Rattle.moves.specs.Programs.{wilsonBalding, hosting, host, onto}
 use Rattle.calls.specs.Given.{After, after, turnOf}
 use Rattle.calls.specs.YieldLaws.{non-root-yields}
 use Rattle.grafts.specs.Given.{Regrafts}
-use Rattle.wilson.specs.Given.{hosting, host, onto}
 
 -- a and b are what was drawn for i and j
 module _ (pairs parents : List ℕ) (heights : List Float) (root : ℕ) (s : Supply) (a : DrawnNumber) (ea : a ≡ drawnNumber s (pick (nonRoot (nodesOf pairs) root) s)) where

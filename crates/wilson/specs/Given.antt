@@ -1,31 +1,20 @@
 -- The parts into which the code of WilsonBalding takes its rule, and what they ask. Definitions only. Assumes nothing.
 use mathlib.Core.Path.{_≡_}
-use mathlib.Core.Bool.{Bool, not, _&&_, _||_, cond}
+use mathlib.Core.Bool.{Bool, _||_}
 use mathlib.Core.List.{List}
 use Prim.Native.Nat.{ℕ}
 use lib.Dec.{eqb}
 use lib.Ieee.{Float}
-use Rattle.random.specs.Draw.{Number, until, below, Draw, return}
 use Rattle.real.specs.Real.{maxOf}
 use Rattle.tree.specs.Tree.{Tree, parent, height}
 use Rattle.tree.specs.Given.{treeOf}
-use Rattle.rules.specs.Rules.{hosts, newRange, oldRange, wilsonDeclines}
+use Rattle.rules.specs.Rules.{newRange, oldRange, wilsonDeclines}
 use Rattle.calls.specs.declared.Height.{Height}
-use Rattle.calls.specs.Call.{Reply, makes, Outcome, declined}
-use Rattle.moves.specs.Programs.{wilsonHeight}
 use Rattle.calls.specs.Given.{heightOf}
 use Rattle.grafts.specs.Given.{Regrafts}
 use Rattle.wilson.specs.declared.Ranges.{Ranges}
 
 -- ---- the parts
-
--- "j other than i that is the root or has a parent q taller than i"
-unfoldable pub hosting : Tree → ℕ → ℕ → Bool
-hosting t i j = not (eqb j i) && hosts t i j
-
--- one of n such nodes
-unfoldable pub host : ℕ → Tree → ℕ → Number
-host n t i = until (hosting t i) (below n)
 
 -- "j or p is the root, or q = p, j = p, q = i"
 unfoldable pub barred : Tree → ℕ → ℕ → Bool
@@ -41,10 +30,6 @@ rangesOf t i j = record { declined = wilsonDeclines t i j; new = newRange t i j;
 -- the height that a uniform takes "from max(h(i), h(j)) to h(q)"
 abbrev pub branchHeight : Tree → ℕ → ℕ → Float → Height
 branchHeight t i j u = heightOf (maxOf (height t i) (height t j)) (height t (parent t j)) u
-
--- the move when its nodes are drawn
-unfoldable pub onto : Tree → ℕ → ℕ → Draw (Reply Outcome)
-onto t i j = cond (wilsonDeclines t i j) (return (makes declined)) (wilsonHeight t i j)
 
 -- ---- what is asked
 

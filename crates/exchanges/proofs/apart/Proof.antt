@@ -1,11 +1,11 @@
 -- `exchanges::apart` meets its contract. Assumes nothing.
 use mathlib.Core.Path.{_≡_}
 use Rattle.random.specs.Draw.{pick}
-use Rattle.exchanges.specs.Given.{apart}
 use borrow.Author.Needs.{needs}
 use Rattle.exchanges.proofs.WideLaws.{apartLaws}
 use Rattle.exchanges.proofs.apart.Statement.{statement}
 use Rattle.exchanges.proofs.apart.Tie as tie
+use Rattle.moves.specs.Programs.{apart}
 
 abbrev Inv-loop : tie.InvT-loop
 Inv-loop s n root i supply₀ supply = pick (apart n root i) s ≡ pick (apart n root i) supply

@@ -1,11 +1,12 @@
 -- `exchanges::grandparent` meets its contract. Assumes nothing.
 use mathlib.Core.Path.{_≡_}
 use Rattle.random.specs.Draw.{pick}
-use Rattle.exchanges.specs.Given.{grandparent, pairsIn}
+use Rattle.exchanges.specs.Given.{pairsIn}
 use borrow.Author.Needs.{needs}
 use Rattle.exchanges.proofs.GrandLaws.{grandparentLaws}
 use Rattle.exchanges.proofs.grandparent.Statement.{statement}
 use Rattle.exchanges.proofs.grandparent.Tie as tie
+use Rattle.moves.specs.Programs.{grandparent}
 
 abbrev Inv-loop : tie.InvT-loop
 Inv-loop s pairs n supply₀ supply = pick (grandparent n (pairsIn pairs)) s ≡ pick (grandparent n (pairsIn pairs)) supply

@@ -1,11 +1,11 @@
 -- `heights::non_root_internal` meets its contract. Assumes nothing.
 use mathlib.Core.Path.{_≡_}
 use Rattle.random.specs.Draw.{pick}
-use Rattle.heights.specs.Given.{nonRootInternal}
 use borrow.Author.Needs.{needs}
 use Rattle.heights.proofs.NodeHeightLaws.{nonRootInternalLaws}
 use Rattle.heights.proofs.non_root_internal.Statement.{statement}
 use Rattle.heights.proofs.non_root_internal.Tie as tie
+use Rattle.moves.specs.Programs.{nonRootInternal}
 
 abbrev Inv-loop : tie.InvT-loop
 Inv-loop s n root supply₀ supply = pick (nonRootInternal n root) s ≡ pick (nonRootInternal n root) supply

@@ -2,11 +2,11 @@
 use mathlib.Core.Path.{_≡_}
 use Rattle.random.specs.Draw.{pick}
 use Rattle.tree.specs.Given.{datesIn}
-use Rattle.wilson.specs.Given.{host}
 use borrow.Author.Needs.{needs}
 use Rattle.wilson.proofs.HostLaws.{hostLaws}
 use Rattle.wilson.proofs.host.Statement.{statement}
 use Rattle.wilson.proofs.host.Tie as tie
+use Rattle.moves.specs.Programs.{host}
 
 abbrev Inv-loop : tie.InvT-loop
 Inv-loop s n parents heights root i supply₀ supply =

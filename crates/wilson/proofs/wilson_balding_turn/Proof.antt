@@ -3,6 +3,7 @@ use borrow.Author.Needs.{needs}
 use Rattle.wilson.proofs.TurnLaws.{turn-spent-later, turnLaws}
 use Rattle.wilson.proofs.wilson_balding_turn.Statement.{statement}
 use Rattle.wilson.proofs.wilson_balding_turn.Tie as tie
+use Rattle.moves.specs.Programs.{host}
 
 non-root-requires : tie.Need-non-root-requires
 non-root-requires c κs = search (turnLaws, needs)
