@@ -1,7 +1,7 @@
--- The client's demands on the calls of the seven tree moves. What each says is `explained` (ExplainedLaws) and the laws of every call (calls/CallLaws)
--- on the answer, the generator and the slices that a call leaves. In order: demand 1 (`ends`, `refused-unchanged`); what draws were made (`steps`,
--- `within-allowance`, `larger`, `enough`); what a moved, a declined and a refused call come from (`admitted`, `declined`, `infinite`,
--- `outside-interval`); and demand 3 for what runs (`reversible`). Assumes nothing.
+-- The client's demands on the calls of the seven tree moves: `explained` (ExplainedLaws) and the laws of every call (calls/CallLaws), on the answer,
+-- the generator and the slices that a call leaves. In order: demand 1 (`ends`, `refused-unchanged`); the draws made (`steps`, `within-allowance`);
+-- what a moved, a declined and a refused call come from (`admitted`, `accepted`, `declined`, `declined-unchanged`, `infinite`, `outside-interval`); other
+-- allowances (`larger`, `enough`); and demand 3 for what runs (`reversible`). Assumes nothing.
 use mathlib.Core.Path.{_≡_, refl, ap, _∙_, subst}
 use mathlib.Core.Logic.{_⊎_, inl, inr}
 use mathlib.Core.Bool.{true}
