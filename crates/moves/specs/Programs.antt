@@ -21,7 +21,7 @@ use Rattle.calls.specs.Draws.{nonRoot, internal, scaler, drawnHeight, least}
 abbrev pub slidable : Tree → ℕ → Float → Bool
 slidable t i step = ltb i (nodesOf (t .pairs)) && not (eqb i (t .root)) && finite step
 
--- ---- the moves, t being the tree
+-- ---- NodeHeight, t being the tree here and below
 
 -- "an internal node other than the root"
 unfoldable pub nonRootInternal : ℕ → ℕ → Number
@@ -31,13 +31,15 @@ nonRootInternal n root = until (λ k. not (eqb k root)) (internal n)
 unfoldable pub placing : Tree → ℕ → Draw (Reply Outcome)
 placing t k = drawnHeight k (floor t k) (height t (parent t k)) (λ x. moved (Rules.heightMoved t k x) Even)
 
--- NodeHeight: a node, then its height
+-- a node, then its height
 unfoldable pub nodeHeight : Tree → Draw (Reply Outcome)
 nodeHeight t =
     let n = nodesOf (t .pairs) in
     cond (Rules.nodeHeightDeclines n) (return (makes declined)) (do
       k ← draw (nonRootInternal n (t .root))
       placing t k)
+
+-- ---- SubtreeSlide
 
 -- the node of a slide, and the two uniforms of the step
 pub record Start : Type 0 where
@@ -73,6 +75,8 @@ slideAt i x t =
 unfoldable pub subtreeSlide : ℕ → Float → Tree → Draw (Reply Outcome)
 subtreeSlide i step t = let x = slideHeight t i step in cond (not (finite x)) (return (notFinite (parent t i))) (slideAt i x t)
 
+-- ---- NarrowExchange
+
 -- "an internal node with an internal child"
 unfoldable pub grandparent : ℕ → Tree → Number
 grandparent n t = until (Rules.grand n t) (internal n)
@@ -84,13 +88,15 @@ narrowUnder n t g =
       side ← coin
       return (makes (moved (Rules.narrowed n t g side) (Rules.narrowRatio n t g side))))
 
--- NarrowExchange: a grandparent, then a side
+-- a grandparent, then a side
 unfoldable pub narrowExchange : Tree → Draw (Reply Outcome)
 narrowExchange t =
     let n = nodesOf (t .pairs) in
     cond (oneInternal n) (return (makes declined)) (do
       g ← draw (grandparent n t)
       narrowUnder n t g)
+
+-- ---- WideExchange
 
 -- a non-root node other than i
 unfoldable pub apart : ℕ → ℕ → ℕ → Number
@@ -104,6 +110,8 @@ wideExchange t =
       j ← draw (apart n (t .root) i)
       return (makes (cond (Rules.wideDeclines t i j) declined (moved (Rules.widened n t i j) Even)))
 
+-- ---- WilsonBalding
+
 -- i and j with p's new height: what they make, and with which ratio
 abbrev pub wilsons : Tree → ℕ → ℕ → Float → Outcome
 wilsons t i j x = moved (Rules.wilsonMoved (nodesOf (t .pairs)) t i j x) (Rules.wilsonRatio t i j)
@@ -116,6 +124,7 @@ wilsonHeight t i j = drawnHeight (parent t i) (maxOf (height t i) (height t j)) 
 unfoldable pub hosting : Tree → ℕ → ℕ → Bool
 hosting t i j = not (eqb j i) && Rules.hosts t i j
 
+-- one of n such nodes
 unfoldable pub host : ℕ → Tree → ℕ → Number
 host n t i = until (hosting t i) (below n)
 
@@ -123,7 +132,7 @@ host n t i = until (hosting t i) (below n)
 unfoldable pub onto : Tree → ℕ → ℕ → Draw (Reply Outcome)
 onto t i j = cond (Rules.wilsonDeclines t i j) (return (makes declined)) (wilsonHeight t i j)
 
--- WilsonBalding: "non-root i with parent p", then j, then the height
+-- "non-root i with parent p", then j, then the height
 unfoldable pub wilsonBalding : Tree → Draw (Reply Outcome)
 wilsonBalding t =
     let n = nodesOf (t .pairs) in do
@@ -131,12 +140,16 @@ wilsonBalding t =
       j ← draw (host n t i)
       onto t i j
 
+-- ---- RootScale
+
 -- the root's height times f; 7 where that is not finite
 unfoldable pub rootScale : Float → Tree → Draw (Reply Outcome)
 rootScale s t = do
   u ← uniform
   let f = scaler s u in
       return (cond (not (finite (Rules.rootHeight t f))) (notFinite (t .root)) (makes (cond (Rules.rootScaleDeclines t f) declined (moved (Rules.rootScaled t f) (Rules.rootScaleRatio f)))))
+
+-- ---- TreeScale
 
 -- an internal node's height times f is not finite
 abbrev pub overflows : ℕ → Tree → Float → ℕ → Bool
