@@ -588,17 +588,26 @@ fn most_parents() -> [u16; 4095] {
     [NONE; 4095]
 }
 
-// A line on the answer alone.
-fn brief(
-    name: &[u8],
-    c: Call,
-    pairs: &mut [u16],
-    parents: &mut [u16],
-    heights: &mut [f64],
-    root: usize,
-) {
+fn over_heights() -> [f64; 4097] {
+    [0.0; 4097]
+}
+
+fn over_pairs() -> [u16; 8194] {
+    [NONE; 8194]
+}
+
+fn over_parents() -> [u16; 4097] {
+    [NONE; 4097]
+}
+
+// A line on the answer alone, of a comb that the slices have room for.
+fn brief(name: &[u8], c: Call, pairs: &mut [u16], parents: &mut [u16], heights: &mut [f64]) {
     text(name);
     text(b": ");
+    put_heights(heights);
+    put_comb(pairs);
+    tree::new(pairs, heights, parents);
+    let root = heights.len() / 2 * 2;
     make(c, pairs, parents, heights, root);
     text(b"\n");
 }
@@ -607,31 +616,14 @@ fn most(c: Call) {
     let mut heights = most_heights();
     let mut pairs = most_pairs();
     let mut parents = most_parents();
-    put_heights(&mut heights);
-    put_comb(&mut pairs);
-    tree::new(&pairs, &heights, &mut parents);
-    brief(
-        b"  4095 nodes",
-        c,
-        &mut pairs,
-        &mut parents,
-        &mut heights,
-        4094,
-    );
+    brief(b"  4095 nodes", c, &mut pairs, &mut parents, &mut heights);
 }
 
 fn too_many(c: Call) {
-    let mut heights = [0.0; 4097];
-    let mut pairs = [NONE; 8194];
-    let mut parents = [NONE; 4097];
-    brief(
-        b"  4097 nodes",
-        c,
-        &mut pairs,
-        &mut parents,
-        &mut heights,
-        0,
-    );
+    let mut heights = over_heights();
+    let mut pairs = over_pairs();
+    let mut parents = over_parents();
+    brief(b"  4097 nodes", c, &mut pairs, &mut parents, &mut heights);
 }
 
 // Trees of 1, 2, 4 and 4,097 nodes are refused, those of 3 and 4,095 accepted.
@@ -1422,7 +1414,8 @@ fn faults_in_order() {
     root_scale(b"tuning 2, no draws", F, 2.0, ZEROS, 9);
 }
 
-fn main() {
+// NodeHeight and SubtreeSlide, after the sizes of a tree.
+fn heights_and_slides() {
     all_sizes();
     node_heights();
     node_heights_between();
@@ -1436,6 +1429,10 @@ fn main() {
     slides_down_dated();
     slides_declined();
     slides_spent();
+}
+
+// The exchanges, WilsonBalding and the scales.
+fn exchanges_and_scales() {
     narrow_moved();
     narrow_on_nine();
     narrow_declined();
@@ -1453,6 +1450,10 @@ fn main() {
     tree_scales();
     tree_scales_too_far();
     tree_scales_at_largest();
+}
+
+// Parameters outside their limits, faults of a tree, and what follows a TreeScale.
+fn limits_and_faults() {
     allowances();
     allowances_at_most();
     tunings();
@@ -1463,4 +1464,10 @@ fn main() {
     short();
     dated();
     intervals();
+}
+
+fn main() {
+    heights_and_slides();
+    exchanges_and_scales();
+    limits_and_faults();
 }
