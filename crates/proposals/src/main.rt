@@ -1,6 +1,6 @@
 // Runs the calls of the seven tree moves on tree F, on small trees and on the smallest and the largest that are accepted: moved, declined and
-// refused for each reason that can be met. A line has the answer, then the tree and the generator's words after the call, each height by its
-// bits. "Document 01" is the client's scope paper. Assumes nothing.
+// refused for each reason that can be met. A line has the call and the answer, then the tree and the generator's words after the call; floats are
+// given by their bits. "Document 01" is the client's scope paper. Assumes nothing.
 use answer::Answer;
 use answer::Ratio;
 use calls::Answered;
@@ -29,10 +29,10 @@ enum Move {
     TreeScale(f64),
 }
 
-// A move, with the generator and the allowance that it is given.
+// A move, with the number of its generator and its allowance.
 struct Call {
     to: Move,
-    random: Random,
+    seed: u64,
     allowance: u32,
 }
 
@@ -57,7 +57,6 @@ fn pairs_of(of: &[u16]) {
 }
 
 fn heights_of(of: &[f64]) {
-    text(b" heights");
     for k in 0..of.len() {
         text(b" ");
         bits(of[k]);
@@ -162,68 +161,6 @@ fn begun(of: Started) -> Random {
     of.random
 }
 
-// Makes the call, writes its answer, and gives the generator after it.
-fn make(c: Call, pairs: &mut [u16], over: &mut [u16], at: &mut [f64], root: usize) -> Random {
-    let to = c.to;
-    let g = c.random;
-    let m = c.allowance;
-    match to {
-        Move::NodeHeight => answered(heights::node_height(pairs, over, at, root, g, m)),
-        Move::Start => begun(slide::slide_start(pairs, over, at, root, g, m)),
-        Move::Slide(i, x) => answered(slide::subtree_slide(pairs, over, at, root, i, x, g, m)),
-        Move::Narrow => answered(exchanges::narrow_exchange(pairs, over, at, root, g, m)),
-        Move::Wide => answered(exchanges::wide_exchange(pairs, over, at, root, g, m)),
-        Move::Wilson => answered(wilson::wilson_balding(pairs, over, at, root, g, m)),
-        Move::RootScale(s) => answered(heights::root_scale(pairs, over, at, root, s, g, m)),
-        Move::TreeScale(s) => answered(heights::tree_scale(pairs, over, at, root, s, g, m)),
-    }
-}
-
-fn line(
-    name: &[u8],
-    c: Call,
-    pairs: &mut [u16],
-    parents: &mut [u16],
-    heights: &mut [f64],
-    root: usize,
-) {
-    text(name);
-    text(b": ");
-    let after = make(c, pairs, parents, heights, root);
-    pairs_of(pairs);
-    parents_of(parents);
-    heights_of(heights);
-    state(after);
-    text(b"\n");
-}
-
-fn infinity() -> f64 {
-    real::of_bits(0x7ff0_0000_0000_0000)
-}
-
-fn nan() -> f64 {
-    real::of_bits(0x7ff8_0000_0000_0000)
-}
-
-// The largest finite height.
-fn largest() -> f64 {
-    real::of_bits(0x7fef_ffff_ffff_ffff)
-}
-
-// The least height over 1, and the greatest under it.
-fn over_one() -> f64 {
-    real::of_bits(0x3ff0_0000_0000_0001)
-}
-
-fn under_one() -> f64 {
-    real::of_bits(0x3fef_ffff_ffff_ffff)
-}
-
-// Just under the least tuning.
-fn under_tuning() -> f64 {
-    real::of_bits(0x3e45_798e_e230_8c39)
-}
-
 // A generator goes by a number: 0 to 5 are words that are given, and every other number is a seed. START is document 01's example; the first draw
 // from UPPER is just over a half, from ZERO 0, from FULL all 1s; the second from THEN_ZERO is 0; all from ZEROS are.
 const START: u64 = 0;
@@ -264,12 +201,36 @@ fn generator(seed: u64) -> Random {
     Random::new(seed)
 }
 
-// The move's name and the generator.
-fn begin(name: &[u8], seed: u64) {
-    text(name);
+// The move, with its parameters.
+fn named(to: Move) {
+    match to {
+        Move::NodeHeight => text(b"node height"),
+        Move::Start => text(b"slide start"),
+        Move::Slide(i, x) => {
+            text(b"slide of ");
+            number(i as u64);
+            text(b" by ");
+            bits(x);
+        }
+        Move::Narrow => text(b"narrow"),
+        Move::Wide => text(b"wide"),
+        Move::Wilson => text(b"wilson"),
+        Move::RootScale(s) => {
+            text(b"root scale by ");
+            bits(s);
+        }
+        Move::TreeScale(s) => {
+            text(b"tree scale by ");
+            bits(s);
+        }
+    }
+}
+
+// The generator and the allowance.
+fn supplied(seed: u64, allowance: u32) {
     if seed <= ZEROS {
-        text(b", words ");
         let w = words(seed);
+        text(b", words ");
         number(w[0]);
         text(b",");
         number(w[1]);
@@ -281,7 +242,70 @@ fn begin(name: &[u8], seed: u64) {
         text(b", seed ");
         number(seed);
     }
-    text(b", ");
+    text(b", allowance ");
+    number(allowance as u64);
+    text(b": ");
+}
+
+// Makes the call, writes its answer, and gives the generator after it.
+fn make(c: Call, pairs: &mut [u16], over: &mut [u16], at: &mut [f64], root: usize) -> Random {
+    let to = c.to;
+    let g = generator(c.seed);
+    let m = c.allowance;
+    match to {
+        Move::NodeHeight => answered(heights::node_height(pairs, over, at, root, g, m)),
+        Move::Start => begun(slide::slide_start(pairs, over, at, root, g, m)),
+        Move::Slide(i, x) => answered(slide::subtree_slide(pairs, over, at, root, i, x, g, m)),
+        Move::Narrow => answered(exchanges::narrow_exchange(pairs, over, at, root, g, m)),
+        Move::Wide => answered(exchanges::wide_exchange(pairs, over, at, root, g, m)),
+        Move::Wilson => answered(wilson::wilson_balding(pairs, over, at, root, g, m)),
+        Move::RootScale(s) => answered(heights::root_scale(pairs, over, at, root, s, g, m)),
+        Move::TreeScale(s) => answered(heights::tree_scale(pairs, over, at, root, s, g, m)),
+    }
+}
+
+fn line(tree: &[u8], c: Call, pairs: &mut [u16], over: &mut [u16], at: &mut [f64], root: usize) {
+    let to = c.to;
+    named(to);
+    text(b" on ");
+    text(tree);
+    text(b" at");
+    heights_of(at);
+    supplied(c.seed, c.allowance);
+    let after = make(c, pairs, over, at, root);
+    pairs_of(pairs);
+    parents_of(over);
+    text(b" heights");
+    heights_of(at);
+    state(after);
+    text(b"\n");
+}
+
+fn infinity() -> f64 {
+    real::of_bits(0x7ff0_0000_0000_0000)
+}
+
+fn nan() -> f64 {
+    real::of_bits(0x7ff8_0000_0000_0000)
+}
+
+// The largest finite height.
+fn largest() -> f64 {
+    real::of_bits(0x7fef_ffff_ffff_ffff)
+}
+
+// The least height over 1, and the greatest under it.
+fn over_one() -> f64 {
+    real::of_bits(0x3ff0_0000_0000_0001)
+}
+
+fn under_one() -> f64 {
+    real::of_bits(0x3fef_ffff_ffff_ffff)
+}
+
+// Just under the least tuning.
+fn under_tuning() -> f64 {
+    real::of_bits(0x3e45_798e_e230_8c39)
 }
 
 // Trees go by a number too. F is tree F of document 01: 3 = (0, 1) at 1, 4 = (3, 2) at 2, tips at 0. FLAT has 4 = (2, 3); SLID is F when 0 was slid
@@ -320,26 +344,26 @@ fn five(name: &[u8], under: [u16; 4], parents: [u16; 5], root: usize, heights: [
 }
 
 // On a tree of five nodes with these heights.
-fn at(name: &[u8], tree: u32, heights: [f64; 5], c: Call) {
+fn at(tree: u32, heights: [f64; 5], c: Call) {
     if tree == F {
-        five(name, [0, 1, 3, 2], [3, 3, 4, 4, NONE], 4, heights, c);
+        five(b"F", [0, 1, 3, 2], [3, 3, 4, 4, NONE], 4, heights, c);
     } else if tree == FLAT {
-        five(name, [0, 1, 2, 3], [3, 3, 4, 4, NONE], 4, heights, c);
+        five(b"flat", [0, 1, 2, 3], [3, 3, 4, 4, NONE], 4, heights, c);
     } else {
-        five(name, [0, 4, 1, 2], [3, 4, 4, NONE, 3], 3, heights, c);
+        five(b"slid", [0, 4, 1, 2], [3, 4, 4, NONE, 3], 3, heights, c);
     }
 }
 
 // On 2 = (0, 1).
-fn three(name: &[u8], c: Call) {
+fn three(c: Call) {
     let mut pairs = [NONE, NONE, NONE, NONE, 0, 1];
     let mut parents = [2, 2, NONE];
     let mut heights = [0.0, 0.0, 1.0];
-    line(name, c, &mut pairs, &mut parents, &mut heights, 2);
+    line(b"3 nodes", c, &mut pairs, &mut parents, &mut heights, 2);
 }
 
 // On 4 = (0, 1), 5 = (2, 3), 6 = (4, 5).
-fn fork(name: &[u8], heights: [f64; 7], c: Call) {
+fn fork(heights: [f64; 7], c: Call) {
     let mut pairs = [
         NONE,
         NONE,
@@ -358,11 +382,11 @@ fn fork(name: &[u8], heights: [f64; 7], c: Call) {
     ];
     let mut parents = [4, 4, 5, 5, 6, 6, NONE];
     let mut at = heights;
-    line(name, c, &mut pairs, &mut parents, &mut at, 6);
+    line(b"fork", c, &mut pairs, &mut parents, &mut at, 6);
 }
 
 // On 4 = (0, 1), 5 = (4, 2), 6 = (5, 3).
-fn comb(name: &[u8], heights: [f64; 7], c: Call) {
+fn comb(heights: [f64; 7], c: Call) {
     let mut pairs = [
         NONE,
         NONE,
@@ -381,11 +405,11 @@ fn comb(name: &[u8], heights: [f64; 7], c: Call) {
     ];
     let mut parents = [4, 4, 5, 6, 5, 6, NONE];
     let mut at = heights;
-    line(name, c, &mut pairs, &mut parents, &mut at, 6);
+    line(b"comb", c, &mut pairs, &mut parents, &mut at, 6);
 }
 
 // On 5 = (0, 1), 6 = (2, 3), 7 = (5, 6), 8 = (7, 4).
-fn nine(name: &[u8], heights: [f64; 9], c: Call) {
+fn nine(heights: [f64; 9], c: Call) {
     let mut pairs = [
         NONE,
         NONE,
@@ -408,123 +432,101 @@ fn nine(name: &[u8], heights: [f64; 9], c: Call) {
     ];
     let mut parents = [5, 5, 6, 6, 8, 7, 7, 8, NONE];
     let mut at = heights;
-    line(name, c, &mut pairs, &mut parents, &mut at, 8);
+    line(b"nine", c, &mut pairs, &mut parents, &mut at, 8);
 }
 
 // On a tree with its own heights.
-fn on(name: &[u8], tree: u32, c: Call) {
+fn on(tree: u32, c: Call) {
     if tree == THREE {
-        three(name, c);
+        three(c);
     } else if tree == FORK {
-        fork(name, [0.0, 0.0, 0.0, 0.0, 1.0, 2.0, 3.0], c);
+        fork([0.0, 0.0, 0.0, 0.0, 1.0, 2.0, 3.0], c);
     } else if tree == COMB {
-        comb(name, [0.0, 0.0, 0.0, 0.0, 1.0, 2.0, 3.0], c);
+        comb([0.0, 0.0, 0.0, 0.0, 1.0, 2.0, 3.0], c);
     } else if tree == NINE {
-        nine(name, [0.0, 0.0, 0.0, 0.0, 0.0, 1.0, 2.0, 3.0, 4.0], c);
+        nine([0.0, 0.0, 0.0, 0.0, 0.0, 1.0, 2.0, 3.0, 4.0], c);
     } else if tree == SLID {
-        at(name, tree, [0.0, 0.0, 0.0, 3.0, 2.0], c);
+        at(tree, [0.0, 0.0, 0.0, 3.0, 2.0], c);
     } else {
-        at(name, tree, [0.0, 0.0, 0.0, 1.0, 2.0], c);
+        at(tree, [0.0, 0.0, 0.0, 1.0, 2.0], c);
     }
 }
 
 fn given(to: Move, seed: u64, allowance: u32) -> Call {
     Call {
         to,
-        random: generator(seed),
+        seed,
         allowance,
     }
 }
 
-// A line for each move: on a tree with its own heights, and on F with others by at most nine draws.
-fn height(name: &[u8], tree: u32, seed: u64, allowance: u32) {
-    begin(b"node height", seed);
-    on(name, tree, given(Move::NodeHeight, seed, allowance));
+// Each move on a tree with its own heights, and on F with others by at most nine draws.
+fn height(tree: u32, seed: u64, allowance: u32) {
+    on(tree, given(Move::NodeHeight, seed, allowance));
 }
 
-fn height_at(name: &[u8], heights: [f64; 5], seed: u64) {
-    begin(b"node height", seed);
-    at(name, F, heights, given(Move::NodeHeight, seed, 9));
+fn height_at(heights: [f64; 5], seed: u64) {
+    at(F, heights, given(Move::NodeHeight, seed, 9));
 }
 
-fn starts(name: &[u8], tree: u32, seed: u64, allowance: u32) {
-    begin(b"slide start", seed);
-    on(name, tree, given(Move::Start, seed, allowance));
+fn starts(tree: u32, seed: u64, allowance: u32) {
+    on(tree, given(Move::Start, seed, allowance));
 }
 
-fn slides(name: &[u8], tree: u32, node: usize, step: f64, seed: u64, allowance: u32) {
-    begin(b"slide", seed);
-    on(name, tree, given(Move::Slide(node, step), seed, allowance));
+fn slides(tree: u32, node: usize, step: f64, seed: u64, allowance: u32) {
+    on(tree, given(Move::Slide(node, step), seed, allowance));
 }
 
-fn slides_at(name: &[u8], heights: [f64; 5], node: usize, step: f64, seed: u64) {
-    begin(b"slide", seed);
-    at(name, F, heights, given(Move::Slide(node, step), seed, 9));
+fn slides_at(heights: [f64; 5], node: usize, step: f64, seed: u64) {
+    at(F, heights, given(Move::Slide(node, step), seed, 9));
 }
 
-fn narrow(name: &[u8], tree: u32, seed: u64, allowance: u32) {
-    begin(b"narrow", seed);
-    on(name, tree, given(Move::Narrow, seed, allowance));
+fn narrow(tree: u32, seed: u64, allowance: u32) {
+    on(tree, given(Move::Narrow, seed, allowance));
 }
 
-fn narrow_at(name: &[u8], heights: [f64; 5], seed: u64) {
-    begin(b"narrow", seed);
-    at(name, F, heights, given(Move::Narrow, seed, 9));
+fn narrow_at(heights: [f64; 5], seed: u64) {
+    at(F, heights, given(Move::Narrow, seed, 9));
 }
 
-fn wide(name: &[u8], tree: u32, seed: u64, allowance: u32) {
-    begin(b"wide", seed);
-    on(name, tree, given(Move::Wide, seed, allowance));
+fn wide(tree: u32, seed: u64, allowance: u32) {
+    on(tree, given(Move::Wide, seed, allowance));
 }
 
-fn wide_at(name: &[u8], heights: [f64; 5], seed: u64) {
-    begin(b"wide", seed);
-    at(name, F, heights, given(Move::Wide, seed, 9));
+fn wide_at(heights: [f64; 5], seed: u64) {
+    at(F, heights, given(Move::Wide, seed, 9));
 }
 
-fn wilson(name: &[u8], tree: u32, seed: u64, allowance: u32) {
-    begin(b"wilson", seed);
-    on(name, tree, given(Move::Wilson, seed, allowance));
+fn wilson(tree: u32, seed: u64, allowance: u32) {
+    on(tree, given(Move::Wilson, seed, allowance));
 }
 
-fn wilson_at(name: &[u8], heights: [f64; 5], seed: u64) {
-    begin(b"wilson", seed);
-    at(name, F, heights, given(Move::Wilson, seed, 9));
+fn wilson_at(heights: [f64; 5], seed: u64) {
+    at(F, heights, given(Move::Wilson, seed, 9));
 }
 
-fn root_scale(name: &[u8], tree: u32, s: f64, seed: u64, allowance: u32) {
-    begin(b"root scale", seed);
-    on(name, tree, given(Move::RootScale(s), seed, allowance));
+fn root_scale(tree: u32, s: f64, seed: u64, allowance: u32) {
+    on(tree, given(Move::RootScale(s), seed, allowance));
 }
 
-fn root_scale_at(name: &[u8], heights: [f64; 5], s: f64, seed: u64) {
-    begin(b"root scale", seed);
-    at(name, F, heights, given(Move::RootScale(s), seed, 9));
+fn root_scale_at(heights: [f64; 5], s: f64, seed: u64) {
+    at(F, heights, given(Move::RootScale(s), seed, 9));
 }
 
-fn tree_scale(name: &[u8], tree: u32, s: f64, seed: u64, allowance: u32) {
-    begin(b"tree scale", seed);
-    on(name, tree, given(Move::TreeScale(s), seed, allowance));
+fn tree_scale(tree: u32, s: f64, seed: u64, allowance: u32) {
+    on(tree, given(Move::TreeScale(s), seed, allowance));
 }
 
-fn tree_scale_at(name: &[u8], heights: [f64; 5], s: f64, seed: u64) {
-    begin(b"tree scale", seed);
-    at(name, F, heights, given(Move::TreeScale(s), seed, 9));
+fn tree_scale_at(heights: [f64; 5], s: f64, seed: u64) {
+    at(F, heights, given(Move::TreeScale(s), seed, 9));
 }
 
 // Trees of one, two and four nodes.
 fn too_few(c: Call) {
-    line(
-        b"  1 node",
-        c,
-        &mut [NONE, NONE],
-        &mut [NONE],
-        &mut [0.0],
-        0,
-    );
+    line(b"1 node", c, &mut [NONE, NONE], &mut [NONE], &mut [0.0], 0);
     let mut pairs = [NONE, NONE, NONE, NONE];
     line(
-        b"  2 nodes",
+        b"2 nodes",
         c,
         &mut pairs,
         &mut [1, NONE],
@@ -534,7 +536,7 @@ fn too_few(c: Call) {
     let mut pairs = [NONE, NONE, NONE, NONE, 0, 1, 2, 0];
     let mut heights = [0.0, 0.0, 1.0, 1.0];
     line(
-        b"  4 nodes",
+        b"4 nodes",
         c,
         &mut pairs,
         &mut [2, 2, 3, NONE],
@@ -601,14 +603,17 @@ fn over_parents() -> [u16; 4097] {
 }
 
 // A line on the answer alone, of a comb that the slices have room for.
-fn brief(name: &[u8], c: Call, pairs: &mut [u16], parents: &mut [u16], heights: &mut [f64]) {
-    text(name);
-    text(b": ");
-    put_heights(heights);
+fn brief(tree: &[u8], c: Call, pairs: &mut [u16], over: &mut [u16], at: &mut [f64]) {
+    let to = c.to;
+    named(to);
+    text(b" on ");
+    text(tree);
+    supplied(c.seed, c.allowance);
+    put_heights(at);
     put_comb(pairs);
-    tree::new(pairs, heights, parents);
-    let root = heights.len() / 2 * 2;
-    make(c, pairs, parents, heights, root);
+    tree::new(pairs, at, over);
+    let root = at.len() / 2 * 2;
+    make(c, pairs, over, at, root);
     text(b"\n");
 }
 
@@ -616,35 +621,34 @@ fn most(c: Call) {
     let mut heights = most_heights();
     let mut pairs = most_pairs();
     let mut parents = most_parents();
-    brief(b"  4095 nodes", c, &mut pairs, &mut parents, &mut heights);
+    brief(b"4095 nodes", c, &mut pairs, &mut parents, &mut heights);
 }
 
 fn too_many(c: Call) {
     let mut heights = over_heights();
     let mut pairs = over_pairs();
     let mut parents = over_parents();
-    brief(b"  4097 nodes", c, &mut pairs, &mut parents, &mut heights);
+    brief(b"4097 nodes", c, &mut pairs, &mut parents, &mut heights);
 }
 
 // Trees of 1, 2, 4 and 4,097 nodes are refused, those of 3 and 4,095 accepted.
-fn sizes(name: &[u8], c: Call) {
-    text(name);
-    text(b"\n");
+fn sizes(to: Move) {
+    let c = given(to, START, 9);
     too_few(c);
     too_many(c);
-    three(b"  3 nodes", c);
+    three(c);
     most(c);
 }
 
 fn all_sizes() {
-    sizes(b"node height", given(Move::NodeHeight, START, 9));
-    sizes(b"slide start", given(Move::Start, START, 9));
-    sizes(b"slide", given(Move::Slide(0, 4000.0), START, 9));
-    sizes(b"narrow", given(Move::Narrow, START, 9));
-    sizes(b"wide", given(Move::Wide, START, 9));
-    sizes(b"wilson", given(Move::Wilson, START, 9));
-    sizes(b"root scale", given(Move::RootScale(0.5), START, 9));
-    sizes(b"tree scale", given(Move::TreeScale(0.5), START, 9));
+    sizes(Move::NodeHeight);
+    sizes(Move::Start);
+    sizes(Move::Slide(0, 4000.0));
+    sizes(Move::Narrow);
+    sizes(Move::Wide);
+    sizes(Move::Wilson);
+    sizes(Move::RootScale(0.5));
+    sizes(Move::TreeScale(0.5));
 }
 
 // F with other children, or another parent or root.
@@ -662,13 +666,18 @@ fn fault(name: &[u8], under: [u16; 4], parents: [u16; 5], root: usize) {
 
 fn faults() {
     let parents = [3, 3, 4, 4, NONE];
-    fault(b"wide, equal children", [0, 0, 3, 2], parents, 4);
-    fault(b"wide, a shared child", [0, 1, 1, 9], parents, 4);
-    fault(b"wide, a child out of range", [0, 1, 9, 1], parents, 4);
-    fault(b"wide, a ring", [4, 0, 3, 1], [3, 4, NONE, 4, 3], 2);
-    fault(b"wide, another parent", [0, 1, 3, 2], [3, 3, 3, 4, NONE], 4);
-    fault(b"wide, another root", [0, 1, 3, 2], parents, 3);
-    fault(b"wide, a root that is no node", [0, 1, 3, 2], parents, 5);
+    fault(b"F with equal children", [0, 0, 3, 2], parents, 4);
+    fault(b"F with a shared child", [0, 1, 1, 9], parents, 4);
+    fault(b"F with a child out of range", [0, 1, 9, 1], parents, 4);
+    fault(b"F with a ring", [4, 0, 3, 1], [3, 4, NONE, 4, 3], 2);
+    fault(
+        b"F with another parent",
+        [0, 1, 3, 2],
+        [3, 3, 3, 4, NONE],
+        4,
+    );
+    fault(b"F with another root", [0, 1, 3, 2], parents, 3);
+    fault(b"F with no root", [0, 1, 3, 2], parents, 5);
 }
 
 // F with one height too few.
@@ -678,7 +687,7 @@ fn short() {
     let mut heights = [0.0, 0.0, 0.0, 1.0];
     let c = given(Move::Wilson, START, 9);
     line(
-        b"wilson, four heights",
+        b"F with four heights",
         c,
         &mut pairs,
         &mut parents,
@@ -693,16 +702,9 @@ fn dated() {
     let mut parents = [3, 3, 4, 4, NONE];
     let mut heights = [0.75, 0.0, 0.0, 1.0, 2.0];
     let scale = given(Move::TreeScale(0.5), START, 9);
+    line(b"F dated", scale, &mut pairs, &mut parents, &mut heights, 4);
     line(
-        b"tree scale, tip 0 ends above 3",
-        scale,
-        &mut pairs,
-        &mut parents,
-        &mut heights,
-        4,
-    );
-    line(
-        b"tree scale, the next call",
+        b"F with tip 0 above 3",
         scale,
         &mut pairs,
         &mut parents,
@@ -711,7 +713,7 @@ fn dated() {
     );
     let wide = given(Move::Wide, START, 9);
     line(
-        b"wide, the next call",
+        b"F with tip 0 above 3",
         wide,
         &mut pairs,
         &mut parents,
@@ -743,275 +745,305 @@ fn intervals() {
 }
 
 fn node_heights() {
-    height(b"node 3", F, START, 9);
-    height_at(
-        b"to its taller child",
-        [0.25, 0.5, 0.0, 1.0, 2.0],
-        THEN_ZERO,
-    );
-    height(b"node 3 to 0", F, ZEROS, 9);
-    height(b"node 4 below the root 3", SLID, 6, 9);
-    height(b"the root first", SLID, 7, 9);
-    height(b"node 5", NINE, 7, 9);
-    height(b"node 6", NINE, 8, 9);
-    height(b"node 7", NINE, 6, 9);
-    height(b"the root first", NINE, 19, 9);
-    height(b"one internal node", THREE, START, 9);
+    // Node 3.
+    height(F, START, 9);
+    // To its taller child.
+    height_at([0.25, 0.5, 0.0, 1.0, 2.0], THEN_ZERO);
+    // Node 3 to 0.
+    height(F, ZEROS, 9);
+    // Node 4 below the root 3.
+    height(SLID, 6, 9);
+    // The root first.
+    height(SLID, 7, 9);
+    // Node 5.
+    height(NINE, 7, 9);
+    // Node 6.
+    height(NINE, 8, 9);
+    // Node 7.
+    height(NINE, 6, 9);
+    // The root first.
+    height(NINE, 19, 9);
+    // One internal node.
+    height(THREE, START, 9);
 }
 
 fn node_heights_between() {
-    height_at(b"a gap of one, low", [0.0, 1.0, 0.0, 1.0, over_one()], 6);
-    height_at(b"a gap of one, high", [0.0, 1.0, 0.0, 1.0, over_one()], 10);
-    height_at(b"no gap", [0.0, 1.0, 1.0, 1.0, 1.0], 10);
-    height_at(b"no gap at -0.0", [-0.0, -0.0, -0.0, -0.0, -0.0], 10);
-    height_at(b"children at -0.0", [-0.0, -0.0, 0.0, 1.0, 2.0], THEN_ZERO);
-    height_at(
-        b"children at both zeros",
-        [0.0, -0.0, 0.0, 1.0, 2.0],
-        THEN_ZERO,
-    );
-    height_at(b"up to the largest", [0.0, 0.0, 0.0, 1.0, largest()], 10);
-    height_at(
-        b"all at the largest",
-        [largest(), largest(), largest(), largest(), largest()],
-        10,
-    );
-    height_at(
-        b"the least gap over 0",
-        [0.0, 0.0, 0.0, 0.0, real::of_bits(1)],
-        10,
-    );
-    begin(b"node height", 6);
+    // A gap of one, low.
+    height_at([0.0, 1.0, 0.0, 1.0, over_one()], 6);
+    // A gap of one, high.
+    height_at([0.0, 1.0, 0.0, 1.0, over_one()], 10);
+    // No gap.
+    height_at([0.0, 1.0, 1.0, 1.0, 1.0], 10);
+    // No gap at -0.0.
+    height_at([-0.0, -0.0, -0.0, -0.0, -0.0], 10);
+    // Children at -0.0.
+    height_at([-0.0, -0.0, 0.0, 1.0, 2.0], THEN_ZERO);
+    // Children at both zeros.
+    height_at([0.0, -0.0, 0.0, 1.0, 2.0], THEN_ZERO);
+    // Up to the largest.
+    height_at([0.0, 0.0, 0.0, 1.0, largest()], 10);
+    // All at the largest.
+    height_at([largest(), largest(), largest(), largest(), largest()], 10);
+    // The least gap over 0.
+    height_at([0.0, 0.0, 0.0, 0.0, real::of_bits(1)], 10);
+    // Dated tips.
     comb(
-        b"dated tips",
         [0.5, 0.75, 1.5, 0.25, 1.0, 2.0, 3.0],
         given(Move::NodeHeight, 6, 9),
     );
 }
 
 fn node_heights_spent() {
-    height(b"the root twice, one draw short", F, 6, 3);
-    height(b"the root twice, exact", F, 6, 4);
-    height(b"the root twice, one more", F, 6, 5);
-    height(b"of three nodes", FORK, ZEROS, 65535);
+    // The root twice, one draw short.
+    height(F, 6, 3);
+    // The root twice, exact.
+    height(F, 6, 4);
+    // The root twice, one more.
+    height(F, 6, 5);
+    // Of three nodes.
+    height(FORK, ZEROS, 65535);
 }
 
 fn slide_starts() {
-    starts(b"F", F, START, 9);
-    starts(b"0 is drawn again", F, ZERO, 9);
-    starts(b"the root first", F, 14, 9);
-    starts(b"root 3", SLID, 7, 9);
-    starts(b"the root 3 first", SLID, 24, 9);
-    starts(b"three nodes", THREE, START, 9);
-    starts(b"nine nodes", NINE, 6, 9);
-    starts(b"never", F, ZEROS, 65535);
-    starts(b"the root once, one draw short", F, 14, 3);
-    starts(b"the root once, exact", F, 14, 4);
-    starts(b"the root once, one more", F, 14, 5);
+    // F.
+    starts(F, START, 9);
+    // 0 is drawn again.
+    starts(F, ZERO, 9);
+    // The root first.
+    starts(F, 14, 9);
+    // Root 3.
+    starts(SLID, 7, 9);
+    // The root 3 first.
+    starts(SLID, 24, 9);
+    // Three nodes.
+    starts(THREE, START, 9);
+    // Nine nodes.
+    starts(NINE, 6, 9);
+    // Never.
+    starts(F, ZEROS, 65535);
+    // The root once, one draw short.
+    starts(F, 14, 3);
+    // The root once, exact.
+    starts(F, 14, 4);
+    // The root once, one more.
+    starts(F, 14, 5);
 }
 
 fn slides_up() {
-    slides(b"0 by 2 over the root", F, 0, 2.0, START, 1);
-    slides(b"1 by 2 over the root", F, 1, 2.0, START, 9);
-    slides(b"0 by 0.5 on its branch", F, 0, 0.5, START, 9);
-    slides(b"0 by 1 as high as the root", F, 0, 1.0, START, 9);
-    slides(b"0 by the least over 1", F, 0, 1.0000000000000004, START, 9);
-    slides(b"2 by 1 with the root", F, 2, 1.0, START, 9);
-    slides(b"3 by 5 with the root", F, 3, 5.0, START, 9);
-    slides(b"0 by 1.5 onto 5", COMB, 0, 1.5, START, 9);
-    slides(b"1 by 2.5 over the root", COMB, 1, 2.5, START, 9);
-    slides(b"4 by 1.5 over the root", COMB, 4, 1.5, START, 9);
-    slides(b"2 by 1 as high as the root", COMB, 2, 1.0, START, 9);
-    slides(b"2 by 1.5 onto 7", NINE, 2, 1.5, START, 9);
-    slides(b"3 by 3 over the root", NINE, 3, 3.0, START, 9);
-    slides(b"6 by 2 over the root", NINE, 6, 2.0, START, 9);
+    // 0 by 2 over the root.
+    slides(F, 0, 2.0, START, 1);
+    // 1 by 2 over the root.
+    slides(F, 1, 2.0, START, 9);
+    // 0 by 0.5 on its branch.
+    slides(F, 0, 0.5, START, 9);
+    // 0 by 1 as high as the root.
+    slides(F, 0, 1.0, START, 9);
+    // 0 by the least over 1.
+    slides(F, 0, 1.0000000000000004, START, 9);
+    // 2 by 1 with the root.
+    slides(F, 2, 1.0, START, 9);
+    // 3 by 5 with the root.
+    slides(F, 3, 5.0, START, 9);
+    // 0 by 1.5 onto 5.
+    slides(COMB, 0, 1.5, START, 9);
+    // 1 by 2.5 over the root.
+    slides(COMB, 1, 2.5, START, 9);
+    // 4 by 1.5 over the root.
+    slides(COMB, 4, 1.5, START, 9);
+    // 2 by 1 as high as the root.
+    slides(COMB, 2, 1.0, START, 9);
+    // 2 by 1.5 onto 7.
+    slides(NINE, 2, 1.5, START, 9);
+    // 3 by 3 over the root.
+    slides(NINE, 3, 3.0, START, 9);
+    // 6 by 2 over the root.
+    slides(NINE, 6, 2.0, START, 9);
 }
 
 fn slides_up_on_ties() {
-    slides_at(b"no branch left", [0.0, 1.0, 1.5, 1.0, 2.0], 0, 2.0, START);
-    slides_at(
-        b"tips as high as P",
-        [0.0, 1.0, 0.0, 1.0, 2.0],
-        0,
-        2.0,
-        START,
-    );
-    slides_at(b"all at 0.0", [0.0, 0.0, 0.0, 0.0, 0.0], 0, 1.0, START);
-    slides_at(
-        b"all at -0.0",
-        [-0.0, -0.0, -0.0, -0.0, -0.0],
-        0,
-        1.0,
-        START,
-    );
+    // No branch left.
+    slides_at([0.0, 1.0, 1.5, 1.0, 2.0], 0, 2.0, START);
+    // Tips as high as P.
+    slides_at([0.0, 1.0, 0.0, 1.0, 2.0], 0, 2.0, START);
+    // All at 0.0.
+    slides_at([0.0, 0.0, 0.0, 0.0, 0.0], 0, 1.0, START);
+    // All at -0.0.
+    slides_at([-0.0, -0.0, -0.0, -0.0, -0.0], 0, 1.0, START);
 }
 
 fn slides_past_ties() {
-    begin(b"slide", START);
+    // Past two of a height.
     comb(
-        b"past two of a height",
         [0.0, 0.0, 0.0, 0.0, 1.0, 2.0, 2.0],
         given(Move::Slide(0, 1.5), START, 9),
     );
-    begin(b"slide", START);
+    // As high as two.
     comb(
-        b"as high as two",
         [0.0, 0.0, 0.0, 0.0, 1.0, 2.0, 2.0],
         given(Move::Slide(0, 1.0), START, 9),
     );
-    begin(b"slide", START);
+    // A sibling as high.
     nine(
-        b"a sibling as high",
         [0.0, 0.0, 0.0, 2.0, 0.0, 1.0, 2.0, 3.0, 4.0],
         given(Move::Slide(2, 2.5), START, 9),
     );
-    begin(b"slide", START);
+    // P as its parent.
     nine(
-        b"P as its parent",
         [0.0, 0.0, 0.0, 0.0, 0.0, 2.0, 2.0, 2.0, 4.0],
         given(Move::Slide(0, 1.5), START, 9),
     );
 }
 
 fn slides_at_rest() {
-    slides(b"0 by 0", F, 0, 0.0, START, 9);
-    slides(b"0 by -0.0", F, 0, -0.0, START, 9);
-    slides(b"what rounds away", F, 0, 1e-17, START, 9);
-    slides(b"what rounds away, down", F, 0, -1e-17, START, 9);
-    slides_at(
-        b"-0.0 by 0 is 0.0",
-        [-0.0, -0.0, 0.0, -0.0, 1.0],
-        0,
-        0.0,
-        START,
-    );
-    slides_at(
-        b"-0.0 by -0.0",
-        [-0.0, -0.0, 0.0, -0.0, 1.0],
-        0,
-        -0.0,
-        START,
-    );
-    slides_at(b"0.0 by -0.0", [0.0, 0.0, 0.0, 0.0, 1.0], 0, -0.0, START);
-    slides_at(
-        b"P down to its node",
-        [0.5, 0.0, 0.0, 1.0, 2.0],
-        0,
-        -0.5,
-        START,
-    );
-    slides_at(
-        b"P down to its sibling",
-        [0.0, 0.5, 0.0, 1.0, 2.0],
-        0,
-        -0.5,
-        START,
-    );
-    slides(b"the root down to its child", F, 2, -1.0, START, 9);
+    // 0 by 0.
+    slides(F, 0, 0.0, START, 9);
+    // 0 by -0.0.
+    slides(F, 0, -0.0, START, 9);
+    // What rounds away.
+    slides(F, 0, 1e-17, START, 9);
+    // What rounds away, down.
+    slides(F, 0, -1e-17, START, 9);
+    // -0.0 by 0 is 0.0.
+    slides_at([-0.0, -0.0, 0.0, -0.0, 1.0], 0, 0.0, START);
+    // -0.0 by -0.0.
+    slides_at([-0.0, -0.0, 0.0, -0.0, 1.0], 0, -0.0, START);
+    // 0.0 by -0.0.
+    slides_at([0.0, 0.0, 0.0, 0.0, 1.0], 0, -0.0, START);
+    // P down to its node.
+    slides_at([0.5, 0.0, 0.0, 1.0, 2.0], 0, -0.5, START);
+    // P down to its sibling.
+    slides_at([0.0, 0.5, 0.0, 1.0, 2.0], 0, -0.5, START);
+    // The root down to its child.
+    slides(F, 2, -1.0, START, 9);
 }
 
 fn slides_down() {
-    slides(b"0 by -2, index 0", SLID, 0, -2.0, START, 1);
-    slides(b"0 by -2, index 1", SLID, 0, -2.0, UPPER, 1);
-    slides(b"0 by -0.5 on its branch", SLID, 0, -0.5, START, 9);
-    slides(b"0 by -1 as high as its sibling", SLID, 0, -1.0, START, 9);
-    slides(b"0 by -3, no branch", SLID, 0, -3.0, START, 9);
-    slides(b"4 by -2.5, index 0 of 3", NINE, 4, -2.5, 7, 9);
-    slides(b"4 by -2.5, index 1 of 3", NINE, 4, -2.5, 8, 9);
-    slides(b"4 by -2.5, index 2 of 3", NINE, 4, -2.5, 6, 9);
-    slides(b"4 by -2, as high as 6, index 0", NINE, 4, -2.0, 7, 9);
-    slides(b"4 by -2, as high as 6, index 2", NINE, 4, -2.0, 6, 9);
-    slides(b"4 by -3, as high as 5, index 0", NINE, 4, -3.0, 7, 9);
-    slides(b"4 by -3, as high as 5, index 3", NINE, 4, -3.0, 11, 9);
-    slides(b"5 by -1.5 below 6", NINE, 5, -1.5, 6, 9);
+    // 0 by -2, index 0.
+    slides(SLID, 0, -2.0, START, 1);
+    // 0 by -2, index 1.
+    slides(SLID, 0, -2.0, UPPER, 1);
+    // 0 by -0.5 on its branch.
+    slides(SLID, 0, -0.5, START, 9);
+    // 0 by -1 as high as its sibling.
+    slides(SLID, 0, -1.0, START, 9);
+    // 0 by -3, no branch.
+    slides(SLID, 0, -3.0, START, 9);
+    // 4 by -2.5, index 0 of 3.
+    slides(NINE, 4, -2.5, 7, 9);
+    // 4 by -2.5, index 1 of 3.
+    slides(NINE, 4, -2.5, 8, 9);
+    // 4 by -2.5, index 2 of 3.
+    slides(NINE, 4, -2.5, 6, 9);
+    // 4 by -2, as high as 6, index 0.
+    slides(NINE, 4, -2.0, 7, 9);
+    // 4 by -2, as high as 6, index 2.
+    slides(NINE, 4, -2.0, 6, 9);
+    // 4 by -3, as high as 5, index 0.
+    slides(NINE, 4, -3.0, 7, 9);
+    // 4 by -3, as high as 5, index 3.
+    slides(NINE, 4, -3.0, 11, 9);
+    // 5 by -1.5 below 6.
+    slides(NINE, 5, -1.5, 6, 9);
 }
 
 fn slides_down_dated() {
-    begin(b"slide", 6);
+    // One branch.
     at(
-        b"one branch",
         SLID,
         [0.0, 1.5, 0.0, 3.0, 2.0],
         given(Move::Slide(0, -2.0), 6, 9),
     );
-    begin(b"slide", 6);
+    // One branch, the other as high.
     at(
-        b"one branch, the other as high",
         SLID,
         [0.0, 0.0, 1.0, 3.0, 2.0],
         given(Move::Slide(0, -2.0), 6, 9),
     );
-    begin(b"slide", START);
+    // -0.0 is not below 0.0.
     at(
-        b"-0.0 is not below 0.0",
         SLID,
         [0.0, -0.0, -0.0, 3.0, 2.0],
         given(Move::Slide(0, -3.0), START, 9),
     );
-    begin(b"slide", 6);
+    // One branch over a node.
     nine(
-        b"one branch over a node",
         [0.0, 0.0, 1.75, 2.0, 0.0, 1.0, 2.0, 3.0, 4.0],
         given(Move::Slide(4, -2.5), 6, 9),
     );
 }
 
 fn slides_declined() {
-    slides(b"the node is above", F, 3, -2.0, START, 1);
-    slides(b"below zero", F, 0, -1.5, START, 9);
-    slides_at(b"no branch", [0.75, 0.75, 0.0, 1.0, 2.0], 2, -1.5, START);
-    slides_at(
-        b"no branch, as high",
-        [0.5, 0.5, 0.0, 1.0, 2.0],
-        2,
-        -1.5,
-        START,
-    );
-    slides(b"by the largest down", F, 0, -largest(), START, 9);
+    // The node is above.
+    slides(F, 3, -2.0, START, 1);
+    // Below zero.
+    slides(F, 0, -1.5, START, 9);
+    // No branch.
+    slides_at([0.75, 0.75, 0.0, 1.0, 2.0], 2, -1.5, START);
+    // No branch, as high.
+    slides_at([0.5, 0.5, 0.0, 1.0, 2.0], 2, -1.5, START);
+    // By the largest down.
+    slides(F, 0, -largest(), START, 9);
 }
 
 fn slides_spent() {
-    slides(b"index of three", NINE, 4, -2.5, ZEROS, 65535);
-    slides(b"0 is drawn again, one draw short", NINE, 4, -2.5, ZERO, 1);
-    slides(b"0 is drawn again, exact", NINE, 4, -2.5, ZERO, 2);
-    slides(b"0 is drawn again, one more", NINE, 4, -2.5, ZERO, 3);
-    slides(b"index of four", NINE, 4, -3.0, ZEROS, 1);
+    // Index of three.
+    slides(NINE, 4, -2.5, ZEROS, 65535);
+    // 0 is drawn again, one draw short.
+    slides(NINE, 4, -2.5, ZERO, 1);
+    // 0 is drawn again, exact.
+    slides(NINE, 4, -2.5, ZERO, 2);
+    // 0 is drawn again, one more.
+    slides(NINE, 4, -2.5, ZERO, 3);
+    // Index of four.
+    slides(NINE, 4, -3.0, ZEROS, 1);
 }
 
 fn narrow_moved() {
-    narrow(b"4, side 0", F, START, 9);
-    narrow(b"4, side 0", F, 6, 9);
-    narrow(b"4, side 1", F, 7, 9);
-    narrow(b"3, side 1", SLID, 10, 9);
-    narrow(b"3, side 2", SLID, 6, 9);
-    narrow(b"6, side 4", COMB, 6, 9);
-    narrow(b"6, side 2", COMB, 7, 9);
-    narrow(b"5, side 0", COMB, 12, 9);
-    narrow(b"5, side 1", COMB, 8, 9);
-    narrow(b"the second is taller", FORK, 6, 9);
-    begin(b"narrow", 7);
+    // 4, side 0.
+    narrow(F, START, 9);
+    // 4, side 0.
+    narrow(F, 6, 9);
+    // 4, side 1.
+    narrow(F, 7, 9);
+    // 3, side 1.
+    narrow(SLID, 10, 9);
+    // 3, side 2.
+    narrow(SLID, 6, 9);
+    // 6, side 4.
+    narrow(COMB, 6, 9);
+    // 6, side 2.
+    narrow(COMB, 7, 9);
+    // 5, side 0.
+    narrow(COMB, 12, 9);
+    // 5, side 1.
+    narrow(COMB, 8, 9);
+    // The second is taller.
+    narrow(FORK, 6, 9);
+    // The first is taller.
     fork(
-        b"the first is taller",
         [0.0, 0.0, 0.0, 0.0, 2.0, 1.0, 3.0],
         given(Move::Narrow, 7, 9),
     );
-    begin(b"narrow", 6);
+    // The first of equals.
     fork(
-        b"the first of equals",
         [0.0, 0.0, 0.0, 0.0, 2.0, 2.0, 3.0],
         given(Move::Narrow, 6, 9),
     );
 }
 
 fn narrow_on_nine() {
-    narrow(b"7, side 2", NINE, 6, 9);
-    narrow(b"7, side 3", NINE, 7, 9);
-    narrow(b"8, side 5", NINE, 11, 9);
-    narrow(b"8, side 6", NINE, 10, 9);
-    narrow(b"drawn thrice", NINE, 66, 9);
-    begin(b"narrow", 6);
+    // 7, side 2.
+    narrow(NINE, 6, 9);
+    // 7, side 3.
+    narrow(NINE, 7, 9);
+    // 8, side 5.
+    narrow(NINE, 11, 9);
+    // 8, side 6.
+    narrow(NINE, 10, 9);
+    // Drawn thrice.
+    narrow(NINE, 66, 9);
+    // At the largest.
     nine(
-        b"at the largest",
         [
             largest(),
             largest(),
@@ -1025,262 +1057,295 @@ fn narrow_on_nine() {
         ],
         given(Move::Narrow, 6, 9),
     );
-    begin(b"narrow", 6);
+    // All at either zero.
     comb(
-        b"all at either zero",
         [0.0, -0.0, 0.0, -0.0, -0.0, 0.0, -0.0],
         given(Move::Narrow, 6, 9),
     );
 }
 
 fn narrow_declined() {
-    narrow(b"one internal node", THREE, START, 9);
-    begin(b"narrow", START);
+    // One internal node.
+    narrow(THREE, START, 9);
+    // The first of equals is a tip.
     at(
-        b"the first of equals is a tip",
         FLAT,
         [0.0, 0.0, 0.0, 0.0, 1.0],
         given(Move::Narrow, START, 9),
     );
-    begin(b"narrow", 6);
+    // Both zeros are equals.
     at(
-        b"both zeros are equals",
         FLAT,
         [-0.0, -0.0, 0.0, -0.0, 1.0],
         given(Move::Narrow, 6, 9),
     );
-    begin(b"narrow", 6);
-    at(
-        b"a taller tip",
-        FLAT,
-        [0.0, 0.0, 1.5, 1.0, 2.0],
-        given(Move::Narrow, 6, 9),
-    );
-    narrow_at(b"a taller tip, second", [0.0, 0.0, 1.5, 1.0, 2.0], 6);
-    narrow_at(b"a tip as high, second", [0.0, 0.0, 1.0, 1.0, 2.0], 6);
-    begin(b"narrow", 10);
+    // A taller tip.
+    at(FLAT, [0.0, 0.0, 1.5, 1.0, 2.0], given(Move::Narrow, 6, 9));
+    // A taller tip, second.
+    narrow_at([0.0, 0.0, 1.5, 1.0, 2.0], 6);
+    // A tip as high, second.
+    narrow_at([0.0, 0.0, 1.0, 1.0, 2.0], 6);
+    // A taller tip under 8.
     nine(
-        b"a taller tip under 8",
         [0.0, 0.0, 0.0, 0.0, 3.5, 1.0, 2.0, 3.0, 4.0],
         given(Move::Narrow, 10, 9),
     );
 }
 
 fn narrow_spent() {
-    narrow(b"3 twice, one draw short", F, 7, 3);
-    narrow(b"3 twice, exact", F, 7, 4);
-    narrow(b"3 twice, one more", F, 7, 5);
-    narrow(b"never 4", F, ZEROS, 65535);
+    // 3 twice, one draw short.
+    narrow(F, 7, 3);
+    // 3 twice, exact.
+    narrow(F, 7, 4);
+    // 3 twice, one more.
+    narrow(F, 7, 5);
+    // Never 4.
+    narrow(F, ZEROS, 65535);
 }
 
 fn wide_moved() {
-    wide(b"0 and 2", F, START, 9);
-    wide(b"2 and 1", F, 34, 9);
-    wide(b"0 and 1", SLID, 39, 9);
-    wide(b"0 and 3", COMB, 69, 9);
-    wide(b"4 and 3", COMB, 6, 9);
-    wide(b"3 and 4", COMB, 63, 9);
-    wide(b"0 and 3", FORK, 69, 9);
-    wide(b"5 and 2", NINE, 71, 9);
-    wide(b"4 and 6", NINE, 63, 9);
-    wide(b"5 and 4", NINE, 35, 9);
-    wide(b"the root and 1 again", NINE, 1554, 9);
-    begin(b"wide", 39);
+    // 0 and 2.
+    wide(F, START, 9);
+    // 2 and 1.
+    wide(F, 34, 9);
+    // 0 and 1.
+    wide(SLID, 39, 9);
+    // 0 and 3.
+    wide(COMB, 69, 9);
+    // 4 and 3.
+    wide(COMB, 6, 9);
+    // 3 and 4.
+    wide(COMB, 63, 9);
+    // 0 and 3.
+    wide(FORK, 69, 9);
+    // 5 and 2.
+    wide(NINE, 71, 9);
+    // 4 and 6.
+    wide(NINE, 63, 9);
+    // 5 and 4.
+    wide(NINE, 35, 9);
+    // The root and 1 again.
+    wide(NINE, 1554, 9);
+    // Dated tips.
     nine(
-        b"dated tips",
         [0.5, 0.0, 1.5, 0.25, 2.5, 1.0, 2.0, 3.0, 4.0],
         given(Move::Wide, 39, 9),
     );
 }
 
 fn wide_declined() {
-    wide(b"siblings", F, 31, 9);
-    wide(b"i is the parent of j", F, 29, 9);
-    wide(b"j is the parent of i", F, 7, 9);
-    wide(b"3 and 2, siblings", F, 6, 9);
-    wide_at(b"j above p", [0.0, 0.0, 1.5, 1.0, 2.0], 13);
-    wide_at(b"j as high as p", [0.0, 0.0, 1.0, 1.0, 2.0], 13);
-    wide_at(b"i above q", [0.0, 0.0, 1.5, 1.0, 2.0], 34);
-    wide_at(b"i as high as q", [0.0, 0.0, 1.0, 1.0, 2.0], 34);
-    wide_at(b"all at either zero", [-0.0, 0.0, -0.0, 0.0, -0.0], 13);
-    wide(b"j two below i", COMB, 14, 9);
-    wide(b"i two below j", COMB, 15, 9);
-    wide(b"siblings", THREE, START, 9);
+    // Siblings.
+    wide(F, 31, 9);
+    // I is the parent of j.
+    wide(F, 29, 9);
+    // J is the parent of i.
+    wide(F, 7, 9);
+    // 3 and 2, siblings.
+    wide(F, 6, 9);
+    // J above p.
+    wide_at([0.0, 0.0, 1.5, 1.0, 2.0], 13);
+    // J as high as p.
+    wide_at([0.0, 0.0, 1.0, 1.0, 2.0], 13);
+    // I above q.
+    wide_at([0.0, 0.0, 1.5, 1.0, 2.0], 34);
+    // I as high as q.
+    wide_at([0.0, 0.0, 1.0, 1.0, 2.0], 34);
+    // All at either zero.
+    wide_at([-0.0, 0.0, -0.0, 0.0, -0.0], 13);
+    // J two below i.
+    wide(COMB, 14, 9);
+    // I two below j.
+    wide(COMB, 15, 9);
+    // Siblings.
+    wide(THREE, START, 9);
 }
 
 fn wide_spent() {
-    wide(b"0 and 2, one draw short", F, START, 4);
-    wide(b"0 and 2, exact", F, START, 5);
-    wide(b"0 and 2, one more", F, START, 6);
-    wide(b"never", F, ZEROS, 65535);
-    wide(b"first draw 0 is drawn again", F, ZERO, 9);
+    // 0 and 2, one draw short.
+    wide(F, START, 4);
+    // 0 and 2, exact.
+    wide(F, START, 5);
+    // 0 and 2, one more.
+    wide(F, START, 6);
+    // Never.
+    wide(F, ZEROS, 65535);
+    // First draw 0 is drawn again.
+    wide(F, ZERO, 9);
 }
 
 fn wilson_moved() {
-    wilson(b"0 onto 2", F, START, 9);
-    wilson(b"1 onto 2", F, 8, 9);
-    wilson_at(b"0 onto 2, dated", [0.5, 0.25, 0.75, 1.0, 2.0], 13);
-    wilson(b"0 onto 3", COMB, 69, 9);
-    wilson(b"2 onto 0", COMB, 30, 9);
-    wilson(b"4 onto 3", COMB, 6, 9);
-    wilson(b"3 onto 0", FORK, 45, 9);
-    wilson(b"0 onto 5", FORK, 15, 9);
-    wilson(b"5 onto 4", NINE, 35, 9);
-    wilson(b"6 onto 4", NINE, 86, 9);
-    wilson(b"0 onto 7", NINE, 61, 9);
-    wilson(b"5 onto 2, drawn again", NINE, 269, 9);
+    // 0 onto 2.
+    wilson(F, START, 9);
+    // 1 onto 2.
+    wilson(F, 8, 9);
+    // 0 onto 2, dated.
+    wilson_at([0.5, 0.25, 0.75, 1.0, 2.0], 13);
+    // 0 onto 3.
+    wilson(COMB, 69, 9);
+    // 2 onto 0.
+    wilson(COMB, 30, 9);
+    // 4 onto 3.
+    wilson(COMB, 6, 9);
+    // 3 onto 0.
+    wilson(FORK, 45, 9);
+    // 0 onto 5.
+    wilson(FORK, 15, 9);
+    // 5 onto 4.
+    wilson(NINE, 35, 9);
+    // 6 onto 4.
+    wilson(NINE, 86, 9);
+    // 0 onto 7.
+    wilson(NINE, 61, 9);
+    // 5 onto 2, drawn again.
+    wilson(NINE, 269, 9);
 }
 
 fn wilson_ranges() {
-    wilson_at(b"at the largest", [0.0, 1.0, 0.0, 1.0, largest()], 13);
-    wilson_at(b"ranges of one", [1.0, 1.0, 1.0, 1.0, over_one()], 13);
-    wilson_at(
-        b"the least ranges",
-        [0.0, 0.0, -0.0, 0.0, real::of_bits(1)],
-        13,
-    );
-    begin(b"wilson", 38);
+    // At the largest.
+    wilson_at([0.0, 1.0, 0.0, 1.0, largest()], 13);
+    // Ranges of one.
+    wilson_at([1.0, 1.0, 1.0, 1.0, over_one()], 13);
+    // The least ranges.
+    wilson_at([0.0, 0.0, -0.0, 0.0, real::of_bits(1)], 13);
+    // An old range of one.
     comb(
-        b"an old range of one",
         [0.0, 0.0, 0.0, under_one(), under_one(), 1.0, 2.0],
         given(Move::Wilson, 38, 9),
     );
-    begin(b"wilson", 69);
+    // Tips at -0.0.
     comb(
-        b"tips at -0.0",
         [-0.0, -0.0, -0.0, -0.0, 1.0, 2.0, 3.0],
         given(Move::Wilson, 69, 9),
     );
 }
 
 fn wilson_declined() {
-    wilson(b"the parent is the root", F, 9, 9);
-    wilson(b"onto the root", F, 31, 9);
-    wilson(b"onto its sibling", F, 39, 9);
-    wilson(b"onto its parent", F, 7, 9);
-    wilson_at(b"no new range", [0.0, 0.0, 2.0, 1.0, 2.0], 13);
-    wilson_at(b"no old range", [0.0, 2.0, 0.0, 2.0, 2.0], 13);
-    wilson(b"the parent is the root", THREE, START, 9);
-    wilson_at(
-        b"all at zero, onto the root",
-        [-0.0, 0.0, -0.0, 0.0, -0.0],
-        7,
-    );
+    // The parent is the root.
+    wilson(F, 9, 9);
+    // Onto the root.
+    wilson(F, 31, 9);
+    // Onto its sibling.
+    wilson(F, 39, 9);
+    // Onto its parent.
+    wilson(F, 7, 9);
+    // No new range.
+    wilson_at([0.0, 0.0, 2.0, 1.0, 2.0], 13);
+    // No old range.
+    wilson_at([0.0, 2.0, 0.0, 2.0, 2.0], 13);
+    // The parent is the root.
+    wilson(THREE, START, 9);
+    // All at zero, onto the root.
+    wilson_at([-0.0, 0.0, -0.0, 0.0, -0.0], 7);
 }
 
 fn wilson_spent() {
-    wilson(b"0 onto 2, one draw short", F, START, 5);
-    wilson(b"0 onto 2, exact", F, START, 6);
-    wilson(b"0 onto 2, one more", F, START, 7);
-    wilson(b"never", F, ZEROS, 65535);
+    // 0 onto 2, one draw short.
+    wilson(F, START, 5);
+    // 0 onto 2, exact.
+    wilson(F, START, 6);
+    // 0 onto 2, one more.
+    wilson(F, START, 7);
+    // Never.
+    wilson(F, ZEROS, 65535);
 }
 
 fn root_scales() {
-    root_scale(b"by 0.5", F, 0.5, START, 9);
-    root_scale(b"by 0.5, down to 3", F, 0.5, ZERO, 9);
-    root_scale(b"by 0.5, all the way up", F, 0.5, FULL, 9);
-    root_scale(b"by 0.5", F, 0.5, UPPER, 1);
-    root_scale(b"by 1", F, 1.0, UPPER, 9);
-    root_scale(b"by 1e-8, all the way up", F, 1e-8, FULL, 9);
-    root_scale_at(
-        b"by 1e-8, down over zeros",
-        [0.0, 0.0, 0.0, 0.0, 2.0],
-        1e-8,
-        ZERO,
-    );
-    root_scale(b"root 3", SLID, 0.75, UPPER, 9);
-    root_scale(b"root 8", NINE, 0.75, UPPER, 9);
-    root_scale(b"three nodes", THREE, 0.5, START, 9);
-    root_scale_at(b"all at -0.0", [-0.0, -0.0, -0.0, -0.0, -0.0], 0.5, UPPER);
-    root_scale_at(b"-0.0 over 0.0", [0.0, 0.0, 0.0, 0.0, -0.0], 0.5, UPPER);
-    root_scale_at(
-        b"the largest down",
-        [0.0, 0.0, 0.0, 1.0, largest()],
-        0.5,
-        ZERO,
-    );
-    root_scale_at(
-        b"the least down to 0",
-        [0.0, 0.0, 0.0, 0.0, real::of_bits(1)],
-        0.5,
-        ZERO,
-    );
+    // By 0.5.
+    root_scale(F, 0.5, START, 9);
+    // By 0.5, down to 3.
+    root_scale(F, 0.5, ZERO, 9);
+    // By 0.5, all the way up.
+    root_scale(F, 0.5, FULL, 9);
+    // By 0.5.
+    root_scale(F, 0.5, UPPER, 1);
+    // By 1.
+    root_scale(F, 1.0, UPPER, 9);
+    // By 1e-8, all the way up.
+    root_scale(F, 1e-8, FULL, 9);
+    // By 1e-8, down over zeros.
+    root_scale_at([0.0, 0.0, 0.0, 0.0, 2.0], 1e-8, ZERO);
+    // Root 3.
+    root_scale(SLID, 0.75, UPPER, 9);
+    // Root 8.
+    root_scale(NINE, 0.75, UPPER, 9);
+    // Three nodes.
+    root_scale(THREE, 0.5, START, 9);
+    // All at -0.0.
+    root_scale_at([-0.0, -0.0, -0.0, -0.0, -0.0], 0.5, UPPER);
+    // -0.0 over 0.0.
+    root_scale_at([0.0, 0.0, 0.0, 0.0, -0.0], 0.5, UPPER);
+    // The largest down.
+    root_scale_at([0.0, 0.0, 0.0, 1.0, largest()], 0.5, ZERO);
+    // The least down to 0.
+    root_scale_at([0.0, 0.0, 0.0, 0.0, real::of_bits(1)], 0.5, ZERO);
 }
 
 fn root_scales_declined() {
-    root_scale_at(b"as high as 3", [0.0, 0.0, 0.0, 2.0, 2.0], 0.5, START);
-    root_scale_at(b"under 3", [0.0, 0.0, 0.0, over_one(), 2.0], 0.5, ZERO);
-    root_scale_at(b"under tip 2", [0.0, 0.0, 2.0, 1.0, 2.0], 0.5, START);
-    root_scale(b"by 1e-8", F, 1e-8, ZERO, 9);
+    // As high as 3.
+    root_scale_at([0.0, 0.0, 0.0, 2.0, 2.0], 0.5, START);
+    // Under 3.
+    root_scale_at([0.0, 0.0, 0.0, over_one(), 2.0], 0.5, ZERO);
+    // Under tip 2.
+    root_scale_at([0.0, 0.0, 2.0, 1.0, 2.0], 0.5, START);
+    // By 1e-8.
+    root_scale(F, 1e-8, ZERO, 9);
 }
 
 fn root_scales_too_far() {
-    root_scale_at(b"the largest", [0.0, 0.0, 0.0, 1.0, largest()], 0.5, UPPER);
-    begin(b"root scale", UPPER);
+    // The largest.
+    root_scale_at([0.0, 0.0, 0.0, 1.0, largest()], 0.5, UPPER);
+    // The largest at 3.
     at(
-        b"the largest at 3",
         SLID,
         [0.0, 0.0, 0.0, largest(), 2.0],
         given(Move::RootScale(0.5), UPPER, 9),
     );
-    root_scale_at(
-        b"children as high",
-        [0.0, 0.0, 0.0, largest(), largest()],
-        0.5,
-        UPPER,
-    );
+    // Children as high.
+    root_scale_at([0.0, 0.0, 0.0, largest(), largest()], 0.5, UPPER);
 }
 
 fn tree_scales() {
-    tree_scale(b"F by 0.5", F, 0.5, START, 9);
-    tree_scale(b"three nodes by 0.5", THREE, 0.5, START, 9);
-    tree_scale(b"seven nodes by 0.5", FORK, 0.5, START, 9);
-    tree_scale(b"nine nodes by 0.5", NINE, 0.5, START, 9);
-    tree_scale(b"by 0.75", SLID, 0.75, UPPER, 9);
-    tree_scale(b"by 0.5, all the way down", F, 0.5, ZERO, 9);
-    tree_scale(b"by 0.5, all the way up", F, 0.5, FULL, 9);
-    tree_scale(b"by 1", F, 1.0, UPPER, 9);
-    tree_scale(b"by 1e-8, all the way up", F, 1e-8, FULL, 9);
-    tree_scale_at(b"all at -0.0", [-0.0, -0.0, -0.0, -0.0, -0.0], 0.5, UPPER);
-    tree_scale_at(
-        b"tip 2 above the root",
-        [0.0, 0.0, 1.75, 1.0, 2.0],
-        0.5,
-        START,
-    );
-    tree_scale_at(
-        b"the least is gone",
-        [0.0, 0.0, 0.0, real::of_bits(1), 1.0],
-        0.5,
-        ZERO,
-    );
-    begin(b"tree scale", UPPER);
+    // F by 0.5.
+    tree_scale(F, 0.5, START, 9);
+    // Three nodes by 0.5.
+    tree_scale(THREE, 0.5, START, 9);
+    // Seven nodes by 0.5.
+    tree_scale(FORK, 0.5, START, 9);
+    // Nine nodes by 0.5.
+    tree_scale(NINE, 0.5, START, 9);
+    // By 0.75.
+    tree_scale(SLID, 0.75, UPPER, 9);
+    // By 0.5, all the way down.
+    tree_scale(F, 0.5, ZERO, 9);
+    // By 0.5, all the way up.
+    tree_scale(F, 0.5, FULL, 9);
+    // By 1.
+    tree_scale(F, 1.0, UPPER, 9);
+    // By 1e-8, all the way up.
+    tree_scale(F, 1e-8, FULL, 9);
+    // All at -0.0.
+    tree_scale_at([-0.0, -0.0, -0.0, -0.0, -0.0], 0.5, UPPER);
+    // Tip 2 above the root.
+    tree_scale_at([0.0, 0.0, 1.75, 1.0, 2.0], 0.5, START);
+    // The least is gone.
+    tree_scale_at([0.0, 0.0, 0.0, real::of_bits(1), 1.0], 0.5, ZERO);
+    // Tips stay.
     comb(
-        b"tips stay",
         [0.5, 0.75, 1.5, 0.25, 1.0, 2.0, 3.0],
         given(Move::TreeScale(0.75), UPPER, 9),
     );
 }
 
 fn tree_scales_too_far() {
-    tree_scale_at(
-        b"3 and the root",
-        [0.0, 0.0, 0.0, largest(), largest()],
-        0.5,
-        UPPER,
-    );
-    tree_scale_at(
-        b"the root alone",
-        [0.0, 0.0, 0.0, 1.0, largest()],
-        0.5,
-        UPPER,
-    );
+    // 3 and the root.
+    tree_scale_at([0.0, 0.0, 0.0, largest(), largest()], 0.5, UPPER);
+    // The root alone.
+    tree_scale_at([0.0, 0.0, 0.0, 1.0, largest()], 0.5, UPPER);
 }
 
 fn tree_scales_at_largest() {
-    begin(b"tree scale", UPPER);
+    // 6, not 5.
     nine(
-        b"6, not 5",
         [
             0.0,
             0.0,
@@ -1294,16 +1359,14 @@ fn tree_scales_at_largest() {
         ],
         given(Move::TreeScale(0.5), UPPER, 9),
     );
-    begin(b"tree scale", UPPER);
+    // The root 3 alone.
     at(
-        b"the root 3 alone",
         SLID,
         [0.0, 0.0, 0.0, largest(), 2.0],
         given(Move::TreeScale(0.5), UPPER, 9),
     );
-    begin(b"tree scale", UPPER);
+    // 3 and 4.
     at(
-        b"3 and 4",
         SLID,
         [0.0, 0.0, 0.0, largest(), largest()],
         given(Move::TreeScale(0.5), UPPER, 9),
@@ -1311,115 +1374,136 @@ fn tree_scales_at_largest() {
 }
 
 fn allowances() {
-    height(b"allowance 0", F, START, 0);
-    height(b"allowance 65536", F, START, 65536);
-    starts(b"allowance 0", F, START, 0);
-    starts(b"allowance 65536", F, START, 65536);
-    slides(b"allowance 0", F, 0, 0.5, START, 0);
-    slides(b"allowance 65536", F, 0, 0.5, START, 65536);
-    narrow(b"allowance 0", F, START, 0);
-    narrow(b"allowance 65536", F, START, 65536);
-    wide(b"allowance 0", F, START, 0);
-    wide(b"allowance 65536", F, START, 65536);
-    wilson(b"allowance 0", F, START, 0);
-    wilson(b"allowance 65536", F, START, 65536);
-    root_scale(b"allowance 0", F, 0.5, START, 0);
-    root_scale(b"allowance 65536", F, 0.5, START, 65536);
-    tree_scale(b"allowance 0", F, 0.5, START, 0);
-    tree_scale(b"allowance 65536", F, 0.5, START, 65536);
+    // Allowance 0.
+    height(F, START, 0);
+    // Allowance 65536.
+    height(F, START, 65536);
+    // Allowance 0.
+    starts(F, START, 0);
+    // Allowance 65536.
+    starts(F, START, 65536);
+    // Allowance 0.
+    slides(F, 0, 0.5, START, 0);
+    // Allowance 65536.
+    slides(F, 0, 0.5, START, 65536);
+    // Allowance 0.
+    narrow(F, START, 0);
+    // Allowance 65536.
+    narrow(F, START, 65536);
+    // Allowance 0.
+    wide(F, START, 0);
+    // Allowance 65536.
+    wide(F, START, 65536);
+    // Allowance 0.
+    wilson(F, START, 0);
+    // Allowance 65536.
+    wilson(F, START, 65536);
+    // Allowance 0.
+    root_scale(F, 0.5, START, 0);
+    // Allowance 65536.
+    root_scale(F, 0.5, START, 65536);
+    // Allowance 0.
+    tree_scale(F, 0.5, START, 0);
+    // Allowance 65536.
+    tree_scale(F, 0.5, START, 65536);
 }
 
 fn allowances_at_most() {
-    height(b"allowance 65535", F, START, 65535);
-    starts(b"allowance 65535", F, START, 65535);
-    slides(b"allowance 65535", F, 0, 0.5, START, 65535);
-    narrow(b"allowance 65535", F, START, 65535);
-    wide(b"allowance 65535", F, START, 65535);
-    wilson(b"allowance 65535", F, START, 65535);
-    root_scale(b"allowance 65535", F, 0.5, START, 65535);
-    tree_scale(b"allowance 65535", F, 0.5, START, 65535);
+    // Allowance 65535.
+    height(F, START, 65535);
+    // Allowance 65535.
+    starts(F, START, 65535);
+    // Allowance 65535.
+    slides(F, 0, 0.5, START, 65535);
+    // Allowance 65535.
+    narrow(F, START, 65535);
+    // Allowance 65535.
+    wide(F, START, 65535);
+    // Allowance 65535.
+    wilson(F, START, 65535);
+    // Allowance 65535.
+    root_scale(F, 0.5, START, 65535);
+    // Allowance 65535.
+    tree_scale(F, 0.5, START, 65535);
 }
 
 fn tunings() {
-    root_scale(b"tuning under 1e-8", F, under_tuning(), START, 9);
-    root_scale(b"tuning over 1", F, over_one(), START, 9);
-    root_scale(b"tuning NaN", F, nan(), START, 9);
-    root_scale(b"tuning -0.5", F, -0.5, START, 9);
-    tree_scale(b"tuning under 1e-8", F, under_tuning(), START, 9);
-    tree_scale(b"tuning over 1", F, over_one(), START, 9);
-    tree_scale(b"tuning NaN", F, nan(), START, 9);
-    tree_scale(b"tuning -0.5", F, -0.5, START, 9);
+    // Tuning under 1e-8.
+    root_scale(F, under_tuning(), START, 9);
+    // Tuning over 1.
+    root_scale(F, over_one(), START, 9);
+    // Tuning NaN.
+    root_scale(F, nan(), START, 9);
+    // Tuning -0.5.
+    root_scale(F, -0.5, START, 9);
+    // Tuning under 1e-8.
+    tree_scale(F, under_tuning(), START, 9);
+    // Tuning over 1.
+    tree_scale(F, over_one(), START, 9);
+    // Tuning NaN.
+    tree_scale(F, nan(), START, 9);
+    // Tuning -0.5.
+    tree_scale(F, -0.5, START, 9);
 }
 
 fn steps() {
-    slides(b"node 5 of 5", F, 5, 1.0, START, 9);
-    slides(b"node 65535", F, 65535, 1.0, START, 9);
-    slides(b"the root", F, 4, 1.0, START, 9);
-    slides(b"the root 3", SLID, 3, 1.0, START, 9);
-    slides(b"step infinite", F, 0, infinity(), START, 9);
-    slides(b"step -infinite", F, 0, -infinity(), START, 9);
-    slides(b"step NaN", F, 0, nan(), START, 9);
+    // Node 5 of 5.
+    slides(F, 5, 1.0, START, 9);
+    // Node 65535.
+    slides(F, 65535, 1.0, START, 9);
+    // The root.
+    slides(F, 4, 1.0, START, 9);
+    // The root 3.
+    slides(SLID, 3, 1.0, START, 9);
+    // Step infinite.
+    slides(F, 0, infinity(), START, 9);
+    // Step -infinite.
+    slides(F, 0, -infinity(), START, 9);
+    // Step NaN.
+    slides(F, 0, nan(), START, 9);
 }
 
 fn steps_too_far() {
-    slides_at(
-        b"P too far",
-        [0.0, 0.0, 0.0, largest(), largest()],
-        0,
-        largest(),
-        START,
-    );
-    slides_at(
-        b"the root too far",
-        [0.0, 0.0, 0.0, 1.0, largest()],
-        2,
-        largest(),
-        START,
-    );
-    slides_at(
-        b"up to the largest",
-        [0.0, 0.0, 0.0, 0.0, largest()],
-        0,
-        largest(),
-        START,
-    );
-    slides(b"over the root to the largest", F, 0, largest(), START, 9);
+    // P too far.
+    slides_at([0.0, 0.0, 0.0, largest(), largest()], 0, largest(), START);
+    // The root too far.
+    slides_at([0.0, 0.0, 0.0, 1.0, largest()], 2, largest(), START);
+    // Up to the largest.
+    slides_at([0.0, 0.0, 0.0, 0.0, largest()], 0, largest(), START);
+    // Over the root to the largest.
+    slides(F, 0, largest(), START, 9);
 }
 
 // A tree's fault comes before a parameter's, and that before the draws.
 fn faults_in_order() {
-    root_scale_at(
-        b"tip 2 too high, tuning 2",
-        [0.0, 0.0, 3.0, 1.0, 2.0],
-        2.0,
-        START,
-    );
-    begin(b"node height", START);
+    // Tip 2 too high, tuning 2.
+    root_scale_at([0.0, 0.0, 3.0, 1.0, 2.0], 2.0, START);
+    // Tip 2 too high, allowance 0.
     at(
-        b"tip 2 too high, allowance 0",
         F,
         [0.0, 0.0, 3.0, 1.0, 2.0],
         given(Move::NodeHeight, START, 0),
     );
-    wide_at(b"tip 0 below zero", [-1.0, 0.0, 0.0, 1.0, 2.0], START);
-    narrow_at(b"node 3 infinite", [0.0, 0.0, 0.0, infinity(), 2.0], START);
-    wilson_at(b"node 3 NaN", [0.0, 0.0, 0.0, nan(), 2.0], START);
-    slides_at(
-        b"the root NaN, node 5 of 5",
-        [0.0, 0.0, 0.0, 1.0, nan()],
-        5,
-        1.0,
-        START,
-    );
-    root_scale(b"tuning 2, no draws", F, 2.0, ZEROS, 9);
+    // Tip 0 below zero.
+    wide_at([-1.0, 0.0, 0.0, 1.0, 2.0], START);
+    // Node 3 infinite.
+    narrow_at([0.0, 0.0, 0.0, infinity(), 2.0], START);
+    // Node 3 NaN.
+    wilson_at([0.0, 0.0, 0.0, nan(), 2.0], START);
+    // The root NaN, node 5 of 5.
+    slides_at([0.0, 0.0, 0.0, 1.0, nan()], 5, 1.0, START);
+    // Tuning 2, no draws.
+    root_scale(F, 2.0, ZEROS, 9);
 }
 
-// NodeHeight and SubtreeSlide, after the sizes of a tree.
-fn heights_and_slides() {
+fn sizes_and_heights() {
     all_sizes();
     node_heights();
     node_heights_between();
     node_heights_spent();
+}
+
+fn all_slides() {
     slide_starts();
     slides_up();
     slides_up_on_ties();
@@ -1431,8 +1515,7 @@ fn heights_and_slides() {
     slides_spent();
 }
 
-// The exchanges, WilsonBalding and the scales.
-fn exchanges_and_scales() {
+fn all_exchanges() {
     narrow_moved();
     narrow_on_nine();
     narrow_declined();
@@ -1444,6 +1527,9 @@ fn exchanges_and_scales() {
     wilson_ranges();
     wilson_declined();
     wilson_spent();
+}
+
+fn all_scales() {
     root_scales();
     root_scales_declined();
     root_scales_too_far();
@@ -1452,8 +1538,7 @@ fn exchanges_and_scales() {
     tree_scales_at_largest();
 }
 
-// Parameters outside their limits, faults of a tree, and what follows a TreeScale.
-fn limits_and_faults() {
+fn all_limits() {
     allowances();
     allowances_at_most();
     tunings();
@@ -1467,7 +1552,9 @@ fn limits_and_faults() {
 }
 
 fn main() {
-    heights_and_slides();
-    exchanges_and_scales();
-    limits_and_faults();
+    sizes_and_heights();
+    all_slides();
+    all_exchanges();
+    all_scales();
+    all_limits();
 }

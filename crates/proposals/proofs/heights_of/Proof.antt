@@ -12,20 +12,14 @@ Inv-loop of k₀ t4 k-end k = k-end ≡ length of
 abbrev μ-loop : tie.MeasureT-loop
 μ-loop of k₀ t4 k-end k = k-end - k
 
+loop-holds : tie.Need-loop-holds Inv-loop μ-loop
+loop-holds c = search needs
+
 slice-aggregate-text : tie.Need-slice-aggregate-text Inv-loop μ-loop
 slice-aggregate-text c = search needs
 
 text-requires : tie.Need-text-requires Inv-loop μ-loop
 text-requires c κs = search needs
-
-loop-holds : tie.Need-loop-holds Inv-loop μ-loop
-loop-holds c = search needs
-
-slice-aggregate-text-2 : tie.Need-slice-aggregate-text-2 Inv-loop μ-loop
-slice-aggregate-text-2 c = search needs
-
-text-requires-2 : tie.Need-text-requires-2 Inv-loop μ-loop
-text-requires-2 c κs = search needs
 
 mul-bits : tie.Need-mul-bits Inv-loop μ-loop
 mul-bits c = search needs
@@ -54,11 +48,9 @@ heights-of-spec =
     (tie.spec
     Inv-loop
     μ-loop
+    loop-holds
     slice-aggregate-text
     text-requires
-    loop-holds
-    slice-aggregate-text-2
-    text-requires-2
     mul-bits
     shared-slice-read-bits
     bits-requires
