@@ -9,6 +9,8 @@ use Rattle.answer.specs.declared.Ratio.{Ratio}
 use Rattle.answer.specs.declared.Ratio.the-variants as Ratios
 use Rattle.answer.specs.declared.Answer.{Answer}
 use Rattle.answer.specs.declared.Answer.the-variants as Answers
+use Rattle.answer.specs.declared.Proposal.{Proposal}
+use Rattle.answer.specs.declared.Proposal.the-variants as Proposals
 
 -- ---- refusals, by the table of "How a call is turned back"
 
@@ -64,3 +66,9 @@ abbrev pub drawsOf : Answer → ℕ
 drawsOf (Answers.Moved m) = m .draws
 drawsOf (Answers.Declined draws) = draws
 drawsOf (Answers.Refused why) = 0
+
+-- the same of a call on parameters
+abbrev pub drawsIn : Proposal → ℕ
+drawsIn (Proposals.Scaled draws ratio) = draws
+drawsIn (Proposals.Declined draws) = draws
+drawsIn (Proposals.Refused why) = 0

@@ -1,4 +1,4 @@
-// What a call answers: moved with its ratio, declined, or refused. specs/Answers.antt gives the number and the values that document 01
+// What a call answers: moved or scaled with its ratio, declined, or refused. specs/Answers.antt gives the number and the values that document 01
 // has for each case. Assumes nothing.
 ghost use mathlib.Core.Path.{_≡_};
 ghost use Rattle.answer.specs.Answers.{numberOf, detailOf};
@@ -77,6 +77,14 @@ pub struct Moved {
 // Declined carries the draws made.
 pub enum Answer {
     Moved(Moved),
+    Declined(u32),
+    Refused(Refusal),
+}
+
+// What a call on parameters answers: scaled, with the draws made and the ratio; declined, with the draws made; or refused. The parameters
+// stand beside it.
+pub enum Proposal {
+    Scaled(u32, Ratio),
     Declined(u32),
     Refused(Refusal),
 }

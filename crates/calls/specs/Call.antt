@@ -37,22 +37,31 @@ ended allowance (got (notFinite k) s) = refused (NotFinite k)
 ended allowance (got (outside k) s) = refused (Outside k)
 ended allowance (got (makes a) s) = given a (allowance - s .left) (s .random)
 
--- "1 to 5" in their order: the tree, then whether its other parameters are within their limits
-abbrev pub thenLimits : Verdict → Bool → Verdict
-thenLimits (Verdicts.Refused why) b = Verdicts.Refused why
-thenLimits Verdicts.Fine b = cond b Verdicts.Fine (Verdicts.Refused (Parameter 0))
+-- "Order: 9, then 1 to 5": what the first of two checks refuses is refused
+abbrev pub andThen : Verdict → Verdict → Verdict
+andThen (Verdicts.Refused why) next = Verdicts.Refused why
+andThen Verdicts.Fine next = next
 
+-- 5: "a parameter outside its limits"; the allowance is one
+abbrev pub limited : Bool → ℕ → Verdict
+limited limits allowance = cond (limits && allowed allowance) Verdicts.Fine (Verdicts.Refused (Parameter 0))
+
+-- the tree, then whether its other parameters are within their limits
 unfoldable pub checked : Bool → Tree → ℕ → Verdict
-checked limits t allowance = thenLimits (validated t) (limits && allowed allowance)
+checked limits t allowance = andThen (validated t) (limited limits allowance)
 
 -- "then 6 to 8 as the move meets them"
 abbrev pub past : {A : Type 0} → Verdict → Ending A → Ending A
 past (Verdicts.Refused why) e = refused why
 past Verdicts.Fine e = e
 
+-- a call that was checked, with a program
+abbrev pub runCall : {A : Type 0} → Verdict → Draw (Reply A) → Random → ℕ → Ending A
+runCall verdict program g allowance = past verdict (ended allowance (run program (supplyOf g allowance)))
+
 -- a call on the tree t with a program that was made for it
 unfoldable pub callOf : {A : Type 0} → Bool → Draw (Reply A) → Tree → Random → ℕ → Ending A
-callOf limits program t g allowance = past (checked limits t allowance) (ended allowance (run program (supplyOf g allowance)))
+callOf limits program t g allowance = runCall (checked limits t allowance) program g allowance
 
 -- ---- a call of a tree move
 

@@ -2,12 +2,13 @@
 -- (`entry-valid`), what a turn gives to the answer (`entry-left`), and that what is answered is the call (`entry-refused`, `entry-done`).
 -- Assumes nothing.
 use mathlib.Core.Path.{_≡_, refl, sym, ap, _∙_}
-use mathlib.Core.Bool.{Bool, true, false, _&&_, and-eq-true-iff}
+use mathlib.Core.Bool.{Bool, true, false, _&&_, cond, and-eq-true-iff}
 use mathlib.Core.List.{List}
 use Prim.Native.Nat.{ℕ, _≤_}
 use native.Mathlib.Omega.{arith}
 use lib.Ieee.{Float}
 use Rattle.answer.specs.declared.Refusal.{Refusal}
+use Rattle.answer.specs.declared.Refusal.the-variants.{Parameter}
 use Rattle.random.specs.declared.Random.{Random}
 use Rattle.random.specs.declared.Supply.{Supply}
 use Rattle.random.specs.Draw.{Draw, Drawn, spent, got, run, supplyOf, allowed}
@@ -21,7 +22,7 @@ use Rattle.tree.specs.Given.{treeOf}
 use Rattle.accepted.specs.ValidatedLaws.{fine-valid}
 use Rattle.calls.specs.declared.Answered.{Answered}
 use Rattle.calls.specs.declared.Turn.{Turn}
-use Rattle.calls.specs.Call.{Reply, makes, notFinite, outside, Outcome, declined, moved, ended, thenLimits, checked, callOf, Called, called, leaves, treeCall}
+use Rattle.calls.specs.Call.{Reply, makes, notFinite, outside, Outcome, declined, moved, ended, andThen, limited, checked, callOf, Called, called, leaves, treeCall}
 use Rattle.calls.specs.Given.{After, after, turnOf, turnedBack, answeredOf}
 
 -- ---- a check that passed
@@ -37,7 +38,7 @@ pub passed : (limits : Bool) (t : Tree) (allowance : ℕ) → checked limits t a
 unfolding checked
 passed limits t allowance = go (validated t) refl (limits && allowed allowance) refl
   where
-    go : (v : Verdict) → validated t ≡ v → (b : Bool) → limits && allowed allowance ≡ b → thenLimits v b ≡ Verdicts.Fine → Passed limits t allowance
+    go : (v : Verdict) → validated t ≡ v → (b : Bool) → limits && allowed allowance ≡ b → andThen v (cond b Verdicts.Fine (Verdicts.Refused (Parameter 0))) ≡ Verdicts.Fine → Passed limits t allowance
     go Verdicts.Fine e true f h = let p = and-eq-true-iff limits (allowed allowance) .0 f in record { tree = e; within = p .0; allows = p .1 }
     go Verdicts.Fine e false f h = let z : _≡_ {A = ℕ} 0 1 = cc in absurd (omega arith)
     go (Verdicts.Refused why) e b f h = let z : _≡_ {A = ℕ} 0 1 = cc in absurd (omega arith)
@@ -94,12 +95,19 @@ module _ (t : Tree) (g : Random) (allowance : ℕ) (turn : Turn) (pairs parents 
   settled (got (makes declined) u) = refl
   settled (got (makes (moved w r)) u) = refl
 
-  -- what is answered after the turn is the call
+  -- what is answered after the turn is what the program's run ends in
+  pub answered-run : (program : Draw (Reply Outcome)) → after turn pairs parents heights ≡ turnOf t (supplyOf g allowance) (run program (supplyOf g allowance))
+      → (r : Answered) → r ≡ answeredOf (turn .turned) (turn .supply) g allowance
+      → called (r .answer) (r .random) pairs parents heights ≡ leaves t g (ended allowance (run program (supplyOf g allowance)))
+  unfolding answering
+  answered-run program e r er = rw er (ap answering e ∙ settled (run program (supplyOf g allowance)))
+
+  -- so that it is the call
   pub entry-done : (limits : Bool) (program : Draw (Reply Outcome)) (v : Verdict) → v ≡ checked limits t allowance → v ≡ Verdicts.Fine
       → after turn pairs parents heights ≡ turnOf t (supplyOf g allowance) (run program (supplyOf g allowance))
       → (r : Answered) → r ≡ answeredOf (turn .turned) (turn .supply) g allowance
       → called (r .answer) (r .random) pairs parents heights ≡ treeCall limits program t g allowance
-  unfolding treeCall callOf answering
-  entry-done limits program v ev y e r er = rw (er, ← ev, y) (ap answering e ∙ settled (run program (supplyOf g allowance)))
+  unfolding treeCall callOf
+  entry-done limits program v ev y e r er = rw (← ev, y) (answered-run program e r er)
 
 pub ruleset entryLaws = (entry-valid, entry-refused, entry-left, entry-done)

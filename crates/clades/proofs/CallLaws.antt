@@ -17,6 +17,7 @@ use Rattle.answer.specs.declared.Refusal.the-variants.{Size, Parameter}
 use Rattle.real.specs.declared.Printed.{Printed}
 use Rattle.real.specs.declared.Printed.the-variants as Printings
 use Rattle.real.specs.Printed.{printedOf}
+use Rattle.tree.specs.Bounded.{some}
 use Rattle.tree.specs.declared.Verdict.{Verdict}
 use Rattle.tree.specs.declared.Verdict.the-variants as Verdicts
 use Rattle.tree.specs.Tree.{Tree, nodesOf, height, subtree}
@@ -28,7 +29,7 @@ use Rattle.accepted.specs.SubtreeLaws.{postorder-length}
 use Rattle.accepted.specs.ValidatedLaws.{fine-valid}
 use Rattle.clades.specs.declared.Monophyly.the-variants as Monophylies
 use Rattle.clades.specs.declared.Age.the-variants as Ages
-use Rattle.clades.specs.Clades.{some, marked, cladeNode, cladeAge, monophylyCall, ageCall}
+use Rattle.clades.specs.Clades.{marked, cladeNode, cladeAge, monophylyCall, ageCall}
 use Rattle.clades.specs.Counting.{sizeOf, weighs, firstOr, firstWeighing, Seeks, Places, Finds}
 use Rattle.clades.specs.WeightLaws.{size-none, size-some}
 use Rattle.clades.specs.CladeLaws.{clade-node, monophyletic-found, clade-found}

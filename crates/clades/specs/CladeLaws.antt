@@ -14,13 +14,15 @@ use lib.ListN.{length, getD}
 use borrow.Author.Tests.{lt-ltb, le-ltb, eqb-true}
 use Rattle.tree.specs.Tree.{Tree, tipsOf, nodesOf, first, second, parent, subtree, postorder}
 use Rattle.tree.specs.Valid.{Inner, Below, Valid}
+use Rattle.tree.specs.Bounded.{some}
+use Rattle.tree.specs.BoundedLaws.{every-true, every-at, some-true, some-false, some-at}
 use Rattle.tree.specs.ListLaws.{Has, has-none, Before}
 use Rattle.accepted.specs.Ways.{Under, itself, through}
 use Rattle.accepted.specs.WayLaws.{valid-nodes}
 use Rattle.accepted.specs.SubtreeLaws.{subtree-induction, subtree-sound, postorder-nodes, postorder-all, postorder-before}
-use Rattle.clades.specs.Clades.{has, some, firstOf, marked, isBelow, exactly, over, monophyletic, cladeNode}
+use Rattle.clades.specs.Clades.{has, firstOf, marked, isBelow, exactly, over, monophyletic, cladeNode}
 use Rattle.clades.specs.Counting.{total, weight, sizeOf, weightBelow, weighs, firstOr}
-use Rattle.clades.specs.SumLaws.{has-later, has-split, has-true, has-in, total-append, total-le, every-true, every-at, some-true, some-false, some-at}
+use Rattle.clades.specs.SumLaws.{has-later, has-split, has-true, has-in, total-append, total-le}
 use Rattle.clades.specs.WeightLaws.{weight-one, weight-more, weight-inner, weighs-over, weighs-exactly, exactly-tips}
 
 -- ---- looking through a list

@@ -1,7 +1,7 @@
 -- Sets of tips, given by "one mark per tip": whether one is monophyletic, and the age of its clade. Definitions only. Assumes nothing.
-use mathlib.Core.Bool.{Bool, true, false, not, _&&_, _||_, cond, Bool·beq}
+use mathlib.Core.Bool.{Bool, false, not, _||_, cond, Bool·beq}
 use mathlib.Core.List.{List, [], _∷_}
-use Prim.Native.Nat.{ℕ, zero, suc}
+use Prim.Native.Nat.{ℕ}
 use lib.Dec.{eqb}
 use lib.ListN.{length, getD}
 use Rattle.answer.specs.declared.Refusal.the-variants.{Size, Parameter}
@@ -12,6 +12,7 @@ use Rattle.tree.specs.declared.Verdict.{Verdict}
 use Rattle.tree.specs.declared.Verdict.the-variants as Verdicts
 use Rattle.tree.specs.Tree.{Tree, nodesOf, tipsOf, height, subtree, postorder}
 use Rattle.tree.specs.New.{validated}
+use Rattle.tree.specs.Bounded.{every, some}
 use Rattle.clades.specs.declared.Monophyly.{Monophyly}
 use Rattle.clades.specs.declared.Monophyly.the-variants as Monophylies
 use Rattle.clades.specs.declared.Age.{Age}
@@ -23,15 +24,6 @@ use Rattle.clades.specs.declared.Age.the-variants as Ages
 unfoldable pub has : List ℕ → ℕ → Bool
 has [] c = false
 has (x ∷ l) c = eqb x c || has l c
-
--- all, or some, of the first m numbers pass the test
-unfoldable pub every : (ℕ → Bool) → ℕ → Bool
-every test zero = true
-every test (suc m) = every test m && test m
-
-unfoldable pub some : (ℕ → Bool) → ℕ → Bool
-some test zero = false
-some test (suc m) = some test m || test m
 
 -- the first in a list that passes the test; 0 where none does
 unfoldable pub firstOf : (ℕ → Bool) → List ℕ → ℕ

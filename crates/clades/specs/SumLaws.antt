@@ -1,10 +1,8 @@
--- Numbers in a list, sums, and tests of many numbers. In order: the test whether a number is in a list (`has-true`, `has-false`, `has-in`); sums
--- over lists and over the first numbers, and that a sum over different numbers is one over all numbers, of those among them
--- (`total-distinct`); what all or some of the first numbers pass (`every-true`, `every-at`, `some-true`, `some-false`, `some-at`). Assumes
--- nothing.
+-- Numbers in a list, and sums. In order: the test whether a number is in a list (`has-true`, `has-false`, `has-in`); sums over lists and over the
+-- first numbers, and that a sum over different numbers is one over all numbers, of those among them (`total-distinct`). Assumes nothing.
 use mathlib.Core.Path.{_≡_, refl, sym, ap, _∙_}
 use mathlib.Core.Logic.{_≢_, _⊎_, inl, inr}
-use mathlib.Core.Bool.{Bool, true, false, _&&_, _||_, cond, true≢false}
+use mathlib.Core.Bool.{true, false, _||_, cond, true≢false}
 use mathlib.Core.List.{List, [], _∷_, _++_}
 use Prim.Native.Nat.{ℕ, zero, suc, _+_, _*_, _≤_, _<_}
 use native.Mathlib.Omega.{arith}
@@ -13,7 +11,7 @@ use lib.Dec.{eqb}
 use lib.ListN.{length, getD}
 use borrow.Author.Tests.{eq-eqb, ne-eqb}
 use Rattle.tree.specs.ListLaws.{Has, has-none, has-dec, Distinct}
-use Rattle.clades.specs.Clades.{has, every, some}
+use Rattle.clades.specs.Clades.{has}
 use Rattle.clades.specs.Counting.{total, totalTo}
 
 -- ---- the test whether a number is in a list
@@ -140,54 +138,3 @@ total-distinct f m (x ∷ l) D small =
     pick : (i : ℕ) → Dec (x ≡ i) → within f (x ∷ l) i ≡ at f x i + within f l i
     pick i (yes e) = rw (eq-eqb x i e, has-false l i (λ h. alone (rw e h))) (omega arith)
     pick i (no d) = rw (ne-eqb x i d) (omega arith)
-
--- ---- the tests of all and of some
-
--- all pass
-pub every-true : (test : ℕ → Bool) (m : ℕ) → ((i : ℕ) → i < m → test i ≡ true) → every test m ≡ true
-unfolding every
-every-true test zero all = refl
-every-true test (suc m) all = rw (every-true test m (λ i I. all i (omega arith)), all m (omega arith))
-
--- where all pass, each does
-pub every-at : (test : ℕ → Bool) (m : ℕ) → every test m ≡ true → (i : ℕ) → i < m → test i ≡ true
-unfolding every
-every-at test zero h i I = absurd (omega arith)
-every-at test (suc m) h i I = split (every test m) (test m) refl refl h (every-at test m)
-  where
-    split : (a b : Bool) → every test m ≡ a → test m ≡ b → (a && b) ≡ true → (every test m ≡ true → (i : ℕ) → i < m → test i ≡ true) → test i ≡ true
-    split true true e f h rest = elim (ℕ-discrete i m) [ yes z ↦ rw z f | no z ↦ rest e i (omega arith) ]
-    split true false e f h rest = absurd (true≢false (sym h))
-    split false b e f h rest = absurd (true≢false (sym h))
-
--- one passes
-pub some-true : (test : ℕ → Bool) (m c : ℕ) → c < m → test c ≡ true → some test m ≡ true
-unfolding some
-some-true test zero c C h = absurd (omega arith)
-some-true test (suc m) c C h = pick (ℕ-discrete c m) (some-true test m c)
-  where
-    pick : Dec (c ≡ m) → (c < m → test c ≡ true → some test m ≡ true) → (some test m || test m) ≡ true
-    pick (yes e) rest = rw (← e, h) (last (some test c))
-      where
-        last : (b : Bool) → (b || true) ≡ true
-        last true = refl
-        last false = refl
-    pick (no d) rest = rw (rest (omega arith) h)
-
--- none passes
-pub some-false : (test : ℕ → Bool) (m : ℕ) → ((c : ℕ) → c < m → test c ≡ false) → some test m ≡ false
-unfolding some
-some-false test zero none = refl
-some-false test (suc m) none = rw (some-false test m (λ c C. none c (omega arith)), none m (omega arith))
-
--- where some pass, one does
-pub some-at : (test : ℕ → Bool) (m : ℕ) → some test m ≡ true → (c : ℕ) × (c < m) × (test c ≡ true)
-unfolding some
-some-at test zero h = absurd (true≢false (sym h))
-some-at test (suc m) h = split (some test m) (test m) refl refl h (some-at test m)
-  where
-    split : (a b : Bool) → some test m ≡ a → test m ≡ b → (a || b) ≡ true → (some test m ≡ true → (c : ℕ) × (c < m) × (test c ≡ true))
-        → (c : ℕ) × (c < suc m) × (test c ≡ true)
-    split true b e f h rest = let r = rest e in (r .0, (let q = r .1 in omega arith), r .2)
-    split false true e f h rest = (m, omega arith, f)
-    split false false e f h rest = absurd (true≢false (sym h))

@@ -1,9 +1,9 @@
--- The ways through `is_finite`, `max` and `min`. Assumes nothing.
+-- The ways through `is_finite`, `max` and `min` (`choiceLaws`), and through the tests of a float (`testLaws`). Assumes nothing.
 use mathlib.Core.Path.{_≡_, refl, sym}
-use mathlib.Core.Bool.{true, false}
-use lib.Ieee.{Float, nan, inf, fin, lt, neg, ofBits}
+use mathlib.Core.Bool.{Bool, true, false}
+use lib.Ieee.{Float, nan, inf, fin, lt, le, neg, ofBits}
 use lib.Ieee.Scale.{finite}
-use Rattle.real.specs.Real.{infinity, maxOf, minOf}
+use Rattle.real.specs.Real.{zero, infinity, maxOf, minOf, positive, notNegative}
 
 pub above : (x : Float) → lt (neg infinity) x ≡ true → lt x infinity ≡ finite x
 unfolding lt neg ofBits
@@ -33,3 +33,18 @@ module _ (a b : Float) where
   min-first h = rw h
 
 pub ruleset choiceLaws = (above, not-above, max-second, max-first, min-second, min-first)
+
+module _ (x : Float) where
+  pub positive-above : lt zero x ≡ true → (b : Bool) → b ≡ finite x → b ≡ positive x
+  positive-above h b e = rw (h, e)
+
+  pub positive-not : lt zero x ≡ false → lt zero x ≡ positive x
+  positive-not h = rw h
+
+  pub not-negative-above : le zero x ≡ true → (b : Bool) → b ≡ finite x → b ≡ notNegative x
+  not-negative-above h b e = rw (h, e)
+
+  pub not-negative-not : le zero x ≡ false → le zero x ≡ notNegative x
+  not-negative-not h = rw h
+
+pub ruleset testLaws = (positive-above, positive-not, not-negative-above, not-negative-not)

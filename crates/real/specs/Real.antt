@@ -1,7 +1,8 @@
--- The floats that other crates name, and the larger and the smaller of two. `finite` is the library's (lib.Ieee.Scale).
--- Definitions only. Assumes nothing.
-use mathlib.Core.Bool.{cond}
-use lib.Ieee.{Float, binary64, ofBits, lt}
+-- The floats that other crates name, the larger and the smaller of two, and two tests of a float. `finite` is the library's
+-- (lib.Ieee.Scale). Definitions only. Assumes nothing.
+use mathlib.Core.Bool.{Bool, cond, _&&_}
+use lib.Ieee.{Float, binary64, ofBits, lt, le}
+use lib.Ieee.Scale.{finite}
 
 -- 0.0
 abbrev pub zero : Float
@@ -17,3 +18,11 @@ maxOf a b = cond (lt a b) b a
 -- the smaller by value, the first where they are equal
 abbrev pub minOf : Float → Float → Float
 minOf a b = cond (lt b a) b a
+
+-- "finite and positive"
+abbrev pub positive : Float → Bool
+positive x = lt zero x && finite x
+
+-- "finite, not negative": −0.0 is zero
+abbrev pub notNegative : Float → Bool
+notNegative x = le zero x && finite x

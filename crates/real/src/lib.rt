@@ -1,9 +1,9 @@
-// Floats as far as trees need them: whether one is finite, the larger and the smaller of two, the bits in and out, and the age that is
-// printed. No public function has a `requires`. Assumes nothing.
+// Floats as far as trees and parameters need them: whether one is finite, positive or not negative, the larger and the smaller of two, the
+// bits in and out, and the age that is printed. No public function has a `requires`. Assumes nothing.
 ghost use mathlib.Core.Path.{_≡_};
 ghost use lib.Ieee.{binary64, ofBits, toBits};
 ghost use lib.Ieee.Scale.{finite};
-ghost use Rattle.real.specs.Real.{maxOf, minOf};
+ghost use Rattle.real.specs.Real.{maxOf, minOf, positive, notNegative};
 ghost use Rattle.real.specs.Printed.{Printable, thousandthsOf, printedOf};
 
 // The bits of infinity. Those above, up to the sign's bit, are a NaN's.
@@ -18,12 +18,31 @@ pub enum Printed {
     Outside,
 }
 
+// A float that may be missing.
+pub enum Optional {
+    Missing,
+    Given(f64),
+}
+
 // Neither a NaN nor an infinity.
 pub fn is_finite(x: f64) -> bool
     ensures { λ r. ⌜ r ≡ finite x ⌝ }
 {
     let infinity = f64::from_bits(INFINITY_BITS);
     -infinity < x && x < infinity
+}
+
+pub fn is_positive(x: f64) -> bool
+    ensures { λ r. ⌜ r ≡ positive x ⌝ }
+{
+    0.0 < x && is_finite(x)
+}
+
+// Zero may have either sign.
+pub fn is_not_negative(x: f64) -> bool
+    ensures { λ r. ⌜ r ≡ notNegative x ⌝ }
+{
+    0.0 <= x && is_finite(x)
 }
 
 // The larger by value, and a where they are equal.

@@ -1,0 +1,113 @@
+-- What holds of every call that was checked, whatever its checks and its program. In order: what a call that was not turned back has drawn
+-- (`run-given`); steps: the generator after it is the one before, stepped as often as the call says that it drew (`run-steps`), and that is within
+-- the allowance (`run-within`); a larger allowance changes nothing but a 6 (`run-larger`), and one that is just enough is enough (`run-enough`); past
+-- the checks only 6, 7 and 8 turn a call back (`run-refused`). Assumes nothing.
+use mathlib.Core.Path.{_≡_, refl, sym, ap, _∙_, subst}
+use mathlib.Core.Logic.{_⊎_, inl, inr}
+use Prim.Native.Nat.{ℕ, _+_, _-_, _≤_}
+use native.Mathlib.Omega.{arith}
+use Rattle.answer.specs.declared.Refusal.{Refusal}
+use Rattle.answer.specs.declared.Refusal.the-variants.{Allowance, NotFinite, Outside}
+use Rattle.random.specs.declared.Random.{Random}
+use Rattle.random.specs.declared.Supply.{Supply}
+use Rattle.random.specs.Generator.{after}
+use Rattle.random.specs.Draw.{Draw, Drawn, spent, got, run, supplyOf}
+use Rattle.random.specs.Lawful.{more}
+use Rattle.random.specs.DrawLaws.{run-lawful}
+use Rattle.tree.specs.declared.Verdict.{Verdict}
+use Rattle.tree.specs.declared.Verdict.the-variants as Verdicts
+use Rattle.calls.specs.Call.{Reply, makes, notFinite, outside, Ending, refused, given, ended, past, runCall}
+
+-- no call is both turned back and given
+pub clash : {A X : Type 0} {why : Refusal} {a : A} {draws : ℕ} {h : Random} → _≡_ {A = Ending A} (refused why) (given a draws h) → X
+clash e = let z : _≡_ {A = ℕ} 0 1 = cc in absurd (omega arith)
+
+module _ {A : Type 0} (program : Draw (Reply A)) (g : Random) where
+  -- ---- a value
+
+  -- the call passed its checks, and its program drew the value
+  pub record Ran (verdict : Verdict) (allowance : ℕ) (a : A) (draws : ℕ) (h : Random) : Type 0 where
+    pub fine : verdict ≡ Verdicts.Fine
+    pub left : ℕ
+    pub ran : run program (supplyOf g allowance) ≡ got (makes a) (supplyOf h left)
+    pub made : draws ≡ allowance - left
+
+  -- a call that gave a value passed its checks, and its program drew the value
+  pub run-given : (v : Verdict) (allowance : ℕ) (a : A) (draws : ℕ) (h : Random) → runCall v program g allowance ≡ given a draws h → Ran v allowance a draws h
+  unfolding ended
+  run-given (Verdicts.Refused why) allowance a draws h e = clash e
+  run-given Verdicts.Fine allowance a draws h e = drawn (run program (supplyOf g allowance)) refl e
+    where
+      drawn : (d : Drawn (Reply A)) → run program (supplyOf g allowance) ≡ d → ended allowance d ≡ given a draws h → Ran Verdicts.Fine allowance a draws h
+      drawn spent e q = clash q
+      drawn (got (notFinite k) s) e q = clash q
+      drawn (got (outside k) s) e q = clash q
+      drawn (got (makes b) s) e q =
+          let ea : b ≡ a = cc in
+          let eh : s .random ≡ h = cc in
+          let ed : allowance - s .left ≡ draws = cc in
+          record { fine = refl; left = s .left; ran = e ∙ (λ i. got (makes (ea i)) (supplyOf (eh i) (s .left))); made = sym ed }
+
+  module _ (v : Verdict) (allowance : ℕ) (a : A) (draws : ℕ) (h : Random) (e : runCall v program g allowance ≡ given a draws h) where
+    -- the generator is stepped as often as the call says that it drew
+    pub run-steps : h ≡ after draws g
+    run-steps =
+        let c = run-given v allowance a draws h e in
+        run-lawful program .steps (supplyOf g allowance) (makes a) (supplyOf h (c .left)) (c .ran) .moved ∙ ap (λ (k : ℕ). after k g) (sym (c .made))
+
+    -- with no more draws than are allowed
+    pub run-within : draws ≤ allowance
+    run-within = let c = run-given v allowance a draws h e in let m = c .made in omega arith
+
+  -- ---- other allowances, of a call whose checks say the same
+
+  -- the run with b draws in place of a, where a value was drawn
+  module _ (a b : ℕ) (o : a ≤ b) (r : Reply A) (s : Supply) (e : run program (supplyOf g a) ≡ got r s) where
+    grown : run program (supplyOf g b) ≡ got r (more (b - a) s)
+    grown =
+        let same : a + (b - a) ≡ b = omega arith in
+        subst (λ (x : ℕ). run program (supplyOf g x) ≡ got r (more (b - a) s)) same (run-lawful program .allowance (b - a) (supplyOf g a) r s e)
+
+    as-many : b - (s .left + (b - a)) ≡ a - s .left
+    as-many = let f = run-lawful program .steps (supplyOf g a) r s e .fewer in omega arith
+
+  -- what the call answered with an allowance it answers with a larger one, unless it was a 6
+  pub run-larger : (v : Verdict) (a b : ℕ) → a ≤ b → (runCall v program g a ≡ refused (Allowance a) → ⊥) → runCall v program g b ≡ runCall v program g a
+  unfolding ended
+  run-larger (Verdicts.Refused why) a b o n = refl
+  run-larger Verdicts.Fine a b o n = drawn (run program (supplyOf g a)) refl n
+    where
+      drawn : (d : Drawn (Reply A)) → run program (supplyOf g a) ≡ d → (ended a d ≡ refused (Allowance a) → ⊥) → ended b (run program (supplyOf g b)) ≡ ended a d
+      drawn spent e n = absurd (n refl)
+      drawn (got (notFinite j) s) e n = rw (grown a b o (notFinite j) s e)
+      drawn (got (outside j) s) e n = rw (grown a b o (outside j) s e)
+      drawn (got (makes x) s) e n = rw (grown a b o (makes x) s e) (ap (λ (m : ℕ). given x m (s .random)) (as-many a b o (makes x) s e))
+
+  -- an allowance of as many draws as the call makes is enough: a 6 is given only where more draws would be made
+  pub run-enough : (v : Verdict) (a b : ℕ) (x : A) (draws : ℕ) (h : Random) → draws ≤ a → a ≤ b → runCall v program g b ≡ given x draws h
+      → runCall v program g a ≡ given x draws h
+  unfolding ended
+  run-enough v a b x draws h m k e =
+      let c = run-given v b x draws h e in
+      let d = c .made in
+      let f = run-lawful program .steps (supplyOf g b) (makes x) (supplyOf h (c .left)) (c .ran) .fewer in
+      let room : a - draws + (b - a) ≡ c .left = omega arith in
+      let grow : a + (b - a) ≡ b = omega arith in
+      let less : run program (more (b - a) (supplyOf g a)) ≡ got (makes x) (more (b - a) (supplyOf h (a - draws))) = rw (grow, room) (c .ran) in
+      let ran = run-lawful program .spare (b - a) (supplyOf g a) (makes x) (supplyOf h (a - draws)) less in
+      let back : a - (a - draws) ≡ draws = omega arith in
+      rw (c .fine, ran, back)
+
+  -- ---- what turns a call back
+
+  -- past the checks, more draws needed than allowed, a height that is not finite, or one outside its interval
+  pub run-refused : (v : Verdict) → v ≡ Verdicts.Fine → (allowance : ℕ) (why : Refusal) → runCall v program g allowance ≡ refused why
+      → (why ≡ Allowance allowance) ⊎ ((k : ℕ) × ((why ≡ NotFinite k) ⊎ (why ≡ Outside k)))
+  unfolding ended
+  run-refused v y allowance why = rw y (drawn (run program (supplyOf g allowance)))
+    where
+      drawn : (d : Drawn (Reply A)) → ended allowance d ≡ refused why → (why ≡ Allowance allowance) ⊎ ((k : ℕ) × ((why ≡ NotFinite k) ⊎ (why ≡ Outside k)))
+      drawn spent e = inl cc
+      drawn (got (notFinite k) s) e = inr (k, inl cc)
+      drawn (got (outside k) s) e = inr (k, inr cc)
+      drawn (got (makes a) s) e = clash (sym e)
