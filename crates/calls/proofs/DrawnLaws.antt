@@ -14,10 +14,11 @@ use Rattle.random.specs.declared.DrawnNumber.{DrawnNumber}
 use Rattle.random.specs.Draw.{below, onward, pick, drawnNumber}
 use Rattle.random.specs.DrawLaws.{below-yields}
 use Rattle.random.specs.SupplyLaws.{number-got, number-spent}
+use Rattle.real.specs.Real.{one}
 use Rattle.tree.specs.Tree.{tipsOf}
 use Rattle.rules.specs.Rules.{internals, oneInternal, within}
 use Rattle.calls.specs.declared.Height.the-variants as Heights
-use Rattle.calls.specs.Draws.{nonRoot, internal, one, scaler, interpolated}
+use Rattle.calls.specs.Draws.{nonRoot, internal, scaler, interpolated}
 use Rattle.calls.specs.Given.{heightOf}
 use Rattle.calls.specs.RedrawLaws.{redraw-fewer, redraw-spent, redraw-taken, redraw-passed}
 

@@ -1,7 +1,7 @@
 -- What holds of every call on a tree, whatever its program: RunLaws with the checks of the tree and the limits. In order: what a call that was not
 -- turned back has passed and drawn (`call-given`); steps (`call-steps`, `call-within`); other allowances (`call-larger`, `call-enough`); and what
 -- turns a call back past its checks (`call-refused`). Assumes nothing.
-use mathlib.Core.Path.{_≡_, sym, _∙_}
+use mathlib.Core.Path.{_≡_}
 use mathlib.Core.Logic.{_⊎_}
 use mathlib.Core.Bool.{Bool, true, and-eq-true-iff}
 use Prim.Native.Nat.{ℕ, _-_, _≤_}
@@ -13,9 +13,8 @@ use Rattle.answer.specs.declared.Refusal.the-variants.{Allowance, NotFinite, Ou
 use Rattle.random.specs.declared.Random.{Random}
 use Rattle.random.specs.Generator.{after}
 use Rattle.random.specs.Draw.{Draw, got, run, supplyOf, allowed}
-use Rattle.tree.specs.declared.Verdict.the-variants as Verdicts
 use Rattle.tree.specs.Tree.{Tree}
-use Rattle.calls.specs.Call.{Reply, makes, Ending, refused, given, checked, callOf}
+use Rattle.calls.specs.Call.{Reply, makes, refused, given, checked, callOf}
 use Rattle.calls.specs.EntryLaws.{Passed, passed}
 use Rattle.calls.specs.RunLaws.{run-given, run-steps, run-within, run-larger, run-enough, run-refused}
 

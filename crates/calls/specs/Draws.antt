@@ -6,6 +6,7 @@ use lib.Dec.{ltb, eqb}
 use lib.Ieee.{Float, binary64, ofBits, add, sub, mul, div}
 use Rattle.random.specs.Draw.{Number, until, map, below, Draw, return, _>>=_, uniform}
 use Rattle.tree.specs.Tree.{tipsOf}
+use Rattle.real.specs.Real.{one}
 use Rattle.rules.specs.Rules.{internals, within}
 use Rattle.calls.specs.Call.{Reply, makes, outside, Outcome}
 
@@ -16,9 +17,6 @@ nonRoot n root = until (λ k. not (eqb k root)) (below n)
 -- "an internal node"
 unfoldable pub internal : ℕ → Number
 internal n = map (λ k. tipsOf n + k) (below (internals n))
-
-abbrev pub one : Float
-one = ofBits binary64 0x3ff0_0000_0000_0000
 
 -- "`scaler` is s + u·(1/s − s) with u a uniform, each operation rounded once in the order written"
 unfoldable pub scaler : Float → Float → Float

@@ -22,7 +22,7 @@ use Rattle.tree.specs.Given.{treeOf}
 use Rattle.accepted.specs.ValidatedLaws.{fine-valid}
 use Rattle.calls.specs.declared.Answered.{Answered}
 use Rattle.calls.specs.declared.Turn.{Turn}
-use Rattle.calls.specs.Call.{Reply, makes, notFinite, outside, Outcome, declined, moved, ended, andThen, limited, checked, callOf, Called, called, leaves, treeCall}
+use Rattle.calls.specs.Call.{Reply, makes, notFinite, outside, Outcome, declined, moved, ended, andThen, checked, callOf, Called, called, leaves, treeCall}
 use Rattle.calls.specs.Given.{After, after, turnOf, turnedBack, answeredOf}
 
 -- ---- a check that passed

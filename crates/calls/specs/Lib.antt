@@ -7,6 +7,7 @@ pub mod Given
 pub mod EntryLaws
 pub mod RunLaws
 pub mod CallLaws
+pub mod ChangeLaws
 pub mod RedrawLaws
 pub mod HeightLaws
 pub mod LeastLaws

@@ -16,7 +16,7 @@ use Rattle.random.specs.Lawful.{more}
 use Rattle.random.specs.DrawLaws.{run-lawful}
 use Rattle.tree.specs.declared.Verdict.{Verdict}
 use Rattle.tree.specs.declared.Verdict.the-variants as Verdicts
-use Rattle.calls.specs.Call.{Reply, makes, notFinite, outside, Ending, refused, given, ended, past, runCall}
+use Rattle.calls.specs.Call.{Reply, makes, notFinite, outside, Ending, refused, given, ended, runCall}
 
 -- no call is both turned back and given
 pub clash : {A X : Type 0} {why : Refusal} {a : A} {draws : ℕ} {h : Random} → _≡_ {A = Ending A} (refused why) (given a draws h) → X

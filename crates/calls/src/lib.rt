@@ -190,7 +190,7 @@ pub fn is_tuned(s: f64) -> bool
 }
 
 // Whether a height is in an interval, both ends included.
-fn is_within(lower: f64, x: f64, upper: f64) -> bool
+pub fn is_within(lower: f64, x: f64, upper: f64) -> bool
     ensures { λ r. ⌜ r ≡ within lower x upper ⌝ }
 {
     lower <= x && x <= upper

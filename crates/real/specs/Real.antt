@@ -8,6 +8,10 @@ use lib.Ieee.Scale.{finite}
 abbrev pub zero : Float
 zero = ofBits binary64 0
 
+-- 1.0
+abbrev pub one : Float
+one = ofBits binary64 0x3ff0_0000_0000_0000
+
 abbrev pub infinity : Float
 infinity = ofBits binary64 0x7ff0_0000_0000_0000
 

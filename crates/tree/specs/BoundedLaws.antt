@@ -1,4 +1,4 @@
--- What all or some of the first numbers pass: from each of them (`every-true`, `some-true`, `some-false`), to one of them (`every-at`, `some-at`),
+-- What all or some of the first numbers pass: from each of them (`every-true`, `some-true`, `some-false`), to one of them (`every-at`, `some-at`, `some-none`),
 -- and by one number more in a loop over them (`every-step`, `every-stop`). Assumes nothing.
 use mathlib.Core.Path.{_≡_, refl, sym, _∙_}
 use mathlib.Core.Bool.{Bool, true, false, _&&_, _||_, true≢false}
@@ -56,6 +56,14 @@ some-at test (suc m) h = split (some test m) (test m) refl refl h (some-at test 
     split true b e f h rest = let r = rest e in (r .0, (let q = r .1 in omega arith), r .2)
     split false true e f h rest = (m, omega arith, f)
     split false false e f h rest = absurd (true≢false (sym h))
+
+-- where none of the first m numbers passes, each does not
+pub some-none : (test : ℕ → Bool) (m : ℕ) → some test m ≡ false → (k : ℕ) → k < m → test k ≡ false
+some-none test m i k K = go (test k) refl
+  where
+    go : (b : Bool) → test k ≡ b → b ≡ false
+    go true e = absurd (true≢false (sym (some-true test m k K e) ∙ i))
+    go false e = refl
 
 -- ---- a loop over the first numbers
 
