@@ -1,0 +1,2 @@
+-- The definition that the contracts of kinds cite.
+pub mod Table
