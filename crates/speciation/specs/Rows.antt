@@ -1,0 +1,34 @@
+-- Yule densities on tree F as rows of one statement on the definition (`yule-rows`): document 01's row, zeros of the other sign, and what
+-- vanishes. Assumes nothing.
+use mathlib.Core.Path.{_≡_, refl}
+use lib.Ieee.{ofBits, lt, le, eq, add, mul, round}
+use Rattle.answer.specs.declared.Refusal.the-variants.{Height}
+use Rattle.tree.specs.Tree.{parent, height, subtree}
+use Rattle.tree.specs.New.{validated, judged, scanned, scan, visit, thenAdopt, adopt, joined, roots, agree, misdated, lowest}
+use Rattle.tree.specs.Bounded.{every}
+use Rattle.rules.specs.Samples.{0·0, −0·0, 0·5, 1·0, 2·0, 2·5, 3·0, F, F-at}
+use Rattle.speciation.specs.declared.Density.the-variants as Densities
+use Rattle.speciation.specs.Yule.{vanishes, totalTo, total, yule, yuleCall}
+
+pub record YuleRows : Type 0 where
+  -- "Yule on F at 0.5: 2, 0.5, 2.5"
+  pub F-at-half : yuleCall F 0·5 ≡ Densities.Terms 2 0·5 2·5
+  -- a tip at −0.0 is at the present
+  pub tip-minus-zero : yuleCall (F-at −0·0 0·0 0·0 1·0 2·0) 0·5 ≡ Densities.Terms 2 0·5 2·5
+  -- one at 0.5 is not, and a rate of 0 is not positive
+  pub tip-above : yuleCall (F-at 0·0 0·5 0·0 1·0 2·0) 0·5 ≡ Densities.MinusInfinity
+  pub rate-zero : yuleCall F 0·0 ≡ Densities.MinusInfinity
+  -- a tree that is not in order is refused first
+  pub tree-first : yuleCall (F-at 0·0 0·0 3·0 1·0 2·0) 0·0 ≡ Densities.Refused (Height 2)
+
+-- each by computation
+pub yule-rows : YuleRows
+unfolding validated judged scanned scan visit thenAdopt adopt joined roots subtree agree misdated lowest parent height
+    every vanishes totalTo total yule yuleCall ofBits lt le eq add mul round
+yule-rows = record {
+  F-at-half = refl;
+  tip-minus-zero = refl;
+  tip-above = refl;
+  rate-zero = refl;
+  tree-first = refl;
+}
