@@ -1,0 +1,2 @@
+-- The definitions that the contracts of process cite.
+pub mod Process
