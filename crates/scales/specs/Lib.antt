@@ -1,0 +1,4 @@
+-- Scales has the definitions that the contracts of scales cite, Given the forms of the code; FactorLaws serve the code of all scales of parameters.
+pub mod Scales
+pub mod Given
+pub mod FactorLaws
