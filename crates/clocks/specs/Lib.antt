@@ -1,0 +1,3 @@
+-- Clocks has the definitions that the contracts of clocks cite, Given the form of the code.
+pub mod Clocks
+pub mod Given
