@@ -1,0 +1,71 @@
+-- The age table: a least and a greatest age for each tip. Which tips are at fault, and what a call may answer that finds one. Definitions only.
+-- Assumes nothing.
+use mathlib.Core.Path.{_≡_}
+use mathlib.Core.Bool.{Bool, true, false, not, _&&_, _||_, cond}
+use mathlib.Core.List.{List}
+use Prim.Native.Nat.{ℕ, _%_, _<_}
+use lib.Dec.{leb, eqb}
+use lib.ListN.{length, getD}
+use lib.Ieee.{Float, nan, lt, le, eq}
+use lib.Ieee.Scale.{finite}
+use Rattle.answer.specs.declared.Refusal.the-variants.{Size, Parameter}
+use Rattle.real.specs.Real as Real
+use Rattle.tree.specs.declared.Verdict.{Verdict}
+use Rattle.tree.specs.declared.Verdict.the-variants as Verdicts
+use Rattle.tree.specs.Tree.{tipsOf}
+use Rattle.calls.specs.Call.{andThen}
+use Rattle.process.specs.declared.FossilizedBirthDeath.{FossilizedBirthDeath}
+use Rattle.process.specs.Process.{processFinite}
+use Rattle.ages.specs.declared.TipAge.{TipAge}
+
+-- ---- the table
+
+-- "The two interval ends of a tip stay together as one record"
+abbrev pub ageOf : List Float → List Float → ℕ → TipAge
+ageOf minima maxima k = record { minimum = getD minima k nan; maximum = getD maxima k nan }
+
+-- refusal 1: not "under 3, even, over 4,095"
+abbrev pub counts : ℕ → Bool
+counts n = leb 3 n && leb n 4095 && eqb (n % 2) 1
+
+-- "lengths disagree" where n nodes have not one age for each tip
+abbrev pub tableSized : ℕ → List Float → List Float → Verdict
+tableSized n minima maxima = cond (eqb (length minima) (tipsOf n) && eqb (length maxima) (tipsOf n)) Verdicts.Fine (Verdicts.Refused (Size n))
+
+-- ---- "Both per-tip age rules of `Dating::validate` hold, present sampling's too"
+
+-- neither a fixed age nor an interval of ages that is younger than the origin and does not include the present
+unfoldable pub misaged : Float → TipAge → Bool
+misaged origin a =
+    not (finite (a .minimum)) || not (finite (a .maximum)) || lt (a .minimum) Real.zero || lt (a .maximum) (a .minimum) || le origin (a .maximum) || (eq (a .minimum) Real.zero && lt Real.zero (a .maximum))
+
+-- a tip at the present, where nothing is sampled there
+unfoldable pub unsampled : Float → TipAge → Bool
+unsampled sampling a = eq sampling Real.zero && eq (a .minimum) Real.zero
+
+unfoldable pub atFault : FossilizedBirthDeath → List Float → List Float → ℕ → Bool
+atFault p minima maxima k = misaged (p .origin) (ageOf minima maxima k) || unsampled (p .«present_sampling») (ageOf minima maxima k)
+
+-- ---- which tip is named
+
+-- what may be said of a table of so many tips: "the refusal's detail is some tip at fault". Which one is undecided
+pub data Judged (fault : ℕ → Bool) (tips : ℕ) : Verdict → Type 0 where
+  in-order : ((k : ℕ) → k < tips → fault k ≡ false) → Judged fault tips Verdicts.Fine
+  some-tip : (k : ℕ) → k < tips → fault k ≡ true → Judged fault tips (Verdicts.Refused (Parameter k))
+
+-- a is what a call gives once its table of ages has been judged
+pub record Undecided {A : Type 0} (fault : ℕ → Bool) (tips : ℕ) (call : Verdict → A) (a : A) : Type 0 where
+  pub verdict : Verdict
+  pub judged : Judged fault tips verdict
+  pub is : a ≡ call verdict
+
+-- ---- the limits of a call with a table, in the order of the refusals
+
+-- "every other 5 [...] has detail 0"
+abbrev pub orParameter : Bool → Verdict
+orParameter limits = cond limits Verdicts.Fine (Verdicts.Refused (Parameter 0))
+
+-- the table by itself, for n nodes: their number, its lengths, its tips, the fields of the process
+unfoldable pub tableCall : ℕ → List Float → List Float → FossilizedBirthDeath → Verdict → Verdict
+tableCall n minima maxima p table =
+    andThen (cond (counts n) Verdicts.Fine (Verdicts.Refused (Size n))) (andThen (tableSized n minima maxima) (andThen table (orParameter (processFinite p))))
