@@ -8,3 +8,4 @@ pub mod AcceptedLaws
 pub mod ValidatedLaws
 pub mod TipLaws
 pub mod RootLaws
+pub mod RefusalLaws

@@ -26,6 +26,11 @@ allows a h k = rw (le-leb 1 a h, le-leb a 65535 k)
 pub allowed-top : (a : ℕ) → allowed a ≡ true → a ≤ 65535
 allowed-top a p = leb-true a 65535 (and-eq-true-iff (leb 1 a) (leb a 65535) .0 p .1)
 
+-- the checks say the same of two such allowances
+pub same-checks : (limits : Bool) (t : Tree) (a b : ℕ) → allowed a ≡ true → allowed b ≡ true → checked limits t b ≡ checked limits t a
+unfolding checked
+same-checks limits t a b h k = rw (h, k)
+
 module _ {A : Type 0} (limits : Bool) (program : Draw (Reply A)) (t : Tree) (g : Random) where
   -- ---- a value
 
@@ -54,16 +59,12 @@ module _ {A : Type 0} (limits : Bool) (program : Draw (Reply A)) (t : Tree) (g :
 
   -- ---- other allowances
 
-  same-checks : (a b : ℕ) → allowed a ≡ true → allowed b ≡ true → checked limits t b ≡ checked limits t a
-  unfolding checked
-  same-checks a b h k = rw (h, k)
-
   -- what the call answered with an allowance it answers with a larger one, unless it was a 6
   pub call-larger : (a b : ℕ) → 1 ≤ a → a ≤ b → b ≤ 65535 → (callOf limits program t g a ≡ refused (Allowance a) → ⊥)
       → callOf limits program t g b ≡ callOf limits program t g a
   unfolding callOf
   call-larger a b h o k n =
-      let y = same-checks a b (allows a h (omega arith)) (allows b (omega arith) k) in
+      let y = same-checks limits t a b (allows a h (omega arith)) (allows b (omega arith) k) in
       rw y (run-larger program g (checked limits t a) a b o n)
 
   -- an allowance of as many draws as the call makes is enough: a 6 is given only where more draws would be made
@@ -73,7 +74,7 @@ module _ {A : Type 0} (limits : Bool) (program : Draw (Reply A)) (t : Tree) (g :
   call-enough a b x draws h o m k e =
       let p = call-given b x draws h e .passes .allows in
       let top = allowed-top b p in
-      let y = same-checks b a p (allows a o (omega arith)) in
+      let y = same-checks limits t b a p (allows a o (omega arith)) in
       rw y (run-enough program g (checked limits t b) a b x draws h m k e)
 
   -- ---- what turns a call back

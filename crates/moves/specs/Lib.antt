@@ -6,6 +6,7 @@ pub mod Explained
 pub mod StepLaws
 pub mod ExplainedLaws
 pub mod Ends
+pub mod EndsLaws
 pub mod StartLaws
 pub mod Rows
 pub mod Demands
