@@ -1,4 +1,10 @@
--- Initialize and TipAge are the calls on a tree with a table of ages, Given has the forms of the code.
+-- Initialize and TipAge are the calls on a tree with a table of ages, and Rows are such calls on tree F; Given has the forms of the code. AgeEnds has
+-- definitions too, the words of the demands. AgeDemands has the theorems on the calls of TipAge; the files whose names end in Laws lead to them.
 pub mod Initialize
 pub mod TipAge
 pub mod Given
+pub mod Rows
+pub mod AgeEnds
+pub mod AgeExplainedLaws
+pub mod AgeCheckLaws
+pub mod AgeDemands

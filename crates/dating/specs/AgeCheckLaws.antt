@@ -1,0 +1,124 @@
+-- The checks of a call of TipAge. In order: what they pass (`ages-fine`); that they say the same of two allowances within the limits (`ages-same`),
+-- and of one smaller than one that they pass (`ages-smaller`); and that they refuse with 5 at most (`ages-few`). Assumes nothing.
+use mathlib.Core.Path.{_≡_, refl, subst}
+use mathlib.Core.Bool.{Bool, true, false, _&&_, cond}
+use mathlib.Core.List.{List}
+use Prim.Native.Nat.{ℕ, _≤_, _<_}
+use native.Mathlib.Omega.{arith}
+use lib.Dec.{eqb}
+use lib.ListN.{length}
+use lib.Ieee.{Float}
+use borrow.Author.Tests.{eq-eqb}
+use Rattle.answer.specs.declared.Refusal.{Refusal}
+use Rattle.answer.specs.declared.Refusal.the-variants.{Size, Parameter}
+use Rattle.answer.specs.Answers.{numberOf}
+use Rattle.random.specs.Draw.{allowed}
+use Rattle.tree.specs.declared.Verdict.{Verdict}
+use Rattle.tree.specs.declared.Verdict.the-variants as Verdicts
+use Rattle.tree.specs.Tree.{Tree, nodesOf, tipsOf}
+use Rattle.tree.specs.New.{Accepted, validated}
+use Rattle.accepted.specs.AcceptedLaws.{accepted-valid}
+use Rattle.accepted.specs.ValidatedLaws.{valid-fine}
+use Rattle.accepted.specs.RefusalLaws.{AtMost, validated-few}
+use Rattle.calls.specs.Call.{andThen, limited}
+use Rattle.calls.specs.CallLaws.{allows, allowed-top}
+use Rattle.process.specs.declared.FossilizedBirthDeath.{FossilizedBirthDeath}
+use Rattle.process.specs.Process.{processFinite}
+use Rattle.ages.specs.Ages.{atFault, tableSized, Judged, in-order, some-tip}
+use Rattle.dating.specs.TipAge.{agesChecked}
+
+clash : {X : Type 0} → _≡_ {A = ℕ} 0 1 → X
+clash z = absurd (omega arith)
+
+-- ---- what passes
+
+-- a table is fine where no tip is at fault
+judged-fine : (fault : ℕ → Bool) (tips : ℕ) (v : Verdict) → Judged fault tips v → ((k : ℕ) → k < tips → fault k ≡ false) → v ≡ Verdicts.Fine
+judged-fine fault tips v (in-order f) h = refl
+judged-fine fault tips v (some-tip k l e) h = let q = h k l in clash cc
+
+then-fine : (v w : Verdict) → andThen v w ≡ Verdicts.Fine → w ≡ Verdicts.Fine
+then-fine Verdicts.Fine w e = e
+then-fine (Verdicts.Refused why) w e = clash cc
+
+limits-fine : (b c : Bool) → cond (b && c) Verdicts.Fine (Verdicts.Refused (Parameter 0)) ≡ Verdicts.Fine → c ≡ true
+limits-fine true true e = refl
+limits-fine true false e = clash cc
+limits-fine false c e = clash cc
+
+-- ---- numbers
+
+-- a property of one of two
+either : {A : Type 0} (P : A → Type 0) (b : Bool) {x y : A} → P x → P y → P (cond b x y)
+either P true h k = h
+either P false h k = k
+
+then-few : (m : ℕ) (v w : Verdict) → AtMost m v → AtMost m w → AtMost m (andThen v w)
+then-few m Verdicts.Fine w h k = k
+then-few m (Verdicts.Refused why) w h k = h
+
+-- of a tree
+tree-few : (v : Verdict) → AtMost 4 v → AtMost 5 v
+tree-few Verdicts.Fine h = tt
+tree-few (Verdicts.Refused why) h = omega arith
+
+-- of a table
+table-few : (fault : ℕ → Bool) (tips : ℕ) (v : Verdict) → Judged fault tips v → AtMost 5 v
+table-few fault tips v (in-order f) = tt
+table-few fault tips v (some-tip k l e) = omega arith
+
+-- ---- the checks
+
+module _ (minima maxima : List Float) (p : FossilizedBirthDeath) (t : Tree) (table : Verdict) where
+  -- on an accepted tree, with an age for each tip and no tip at fault, with finite fields and an allowance within its limits
+  pub ages-fine : Accepted t → length minima ≡ tipsOf (nodesOf (t .pairs)) → length maxima ≡ tipsOf (nodesOf (t .pairs))
+      → Judged (atFault p minima maxima) (tipsOf (nodesOf (t .pairs))) table → ((k : ℕ) → k < tipsOf (nodesOf (t .pairs)) → atFault p minima maxima k ≡ false)
+      → processFinite p ≡ true → (a : ℕ) → allowed a ≡ true → agesChecked minima maxima p t a table ≡ Verdicts.Fine
+  unfolding agesChecked
+  ages-fine v l u j f h a k =
+      rw (
+        eq-eqb (length minima) (tipsOf (nodesOf (t .pairs))) l,
+        eq-eqb (length maxima) (tipsOf (nodesOf (t .pairs))) u,
+        valid-fine (nodesOf (t .pairs)) t (accepted-valid t v),
+        judged-fine (atFault p minima maxima) (tipsOf (nodesOf (t .pairs))) table j f,
+        h,
+        k,
+      )
+
+  -- ---- other allowances
+
+  -- the checks say the same of two allowances within their limits
+  pub ages-same : (a b : ℕ) → allowed a ≡ true → allowed b ≡ true → agesChecked minima maxima p t b table ≡ agesChecked minima maxima p t a table
+  unfolding agesChecked
+  ages-same a b h k = rw (h, k)
+
+  -- where they pass an allowance they say the same of a smaller one
+  pub ages-smaller : (a b : ℕ) → 1 ≤ a → a ≤ b → agesChecked minima maxima p t b table ≡ Verdicts.Fine
+      → agesChecked minima maxima p t a table ≡ agesChecked minima maxima p t b table
+  ages-smaller a b h k y =
+      let p = within y in
+      let top = allowed-top b p in
+      ages-same b a p (allows a h (omega arith))
+    where
+      within : agesChecked minima maxima p t b table ≡ Verdicts.Fine → allowed b ≡ true
+      within y =
+          limits-fine (processFinite p) (allowed b)
+          (then-fine table (limited (processFinite p) b)
+          (then-fine (validated t) (andThen table (limited (processFinite p) b))
+          (then-fine (tableSized (nodesOf (t .pairs)) minima maxima) (andThen (validated t) (andThen table (limited (processFinite p) b))) (unfold agesChecked in y))))
+
+  -- ---- refusals
+
+  -- a call that its checks turn back is refused with at most a 5
+  pub ages-few : Judged (atFault p minima maxima) (tipsOf (nodesOf (t .pairs))) table → (a : ℕ) (why : Refusal)
+      → agesChecked minima maxima p t a table ≡ Verdicts.Refused why → numberOf why ≤ 5
+  unfolding agesChecked
+  ages-few j a why e = subst (AtMost 5) e
+      (then-few 5 (tableSized n minima maxima) (andThen (validated t) (andThen table (limited (processFinite p) a)))
+      (either (AtMost 5) (eqb (length minima) (tipsOf n) && eqb (length maxima) (tipsOf n)) {x = Verdicts.Fine} {y = Verdicts.Refused (Size n)} tt (omega arith))
+      (then-few 5 (validated t) (andThen table (limited (processFinite p) a)) (tree-few (validated t) (validated-few t))
+      (then-few 5 table (limited (processFinite p) a) (table-few (atFault p minima maxima) (tipsOf n) table j)
+      (either (AtMost 5) (processFinite p && allowed a) {x = Verdicts.Fine} {y = Verdicts.Refused (Parameter 0)} tt (omega arith)))))
+    where
+      n : ℕ
+      n = nodesOf (t .pairs)

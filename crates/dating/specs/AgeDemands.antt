@@ -1,0 +1,142 @@
+-- The client's demands on the calls of TipAge, whatever is said of the table: what every call on a tree leaves (calls/LeavesLaws) and `age-explained`
+-- (AgeExplainedLaws). In order: demand 1 (`age-ends`, `age-refused`); the draws made (`age-steps`, `age-within`); what a moved, a declined and a refused
+-- call come from (`age-admitted`, `age-declined`, `age-kept`, `age-outside`, `age-finite`); and other allowances (`age-larger`, `age-enough`). Assumes
+-- nothing.
+use mathlib.Core.Path.{_≡_, refl, ap}
+use mathlib.Core.Bool.{true, false}
+use mathlib.Core.List.{List}
+use Prim.Native.Nat.{ℕ, _≤_, _<_}
+use native.Mathlib.Omega.{arith}
+use lib.ListN.{length}
+use lib.Ieee.{Float}
+use Rattle.answer.specs.declared.Refusal.{Refusal}
+use Rattle.answer.specs.declared.Refusal.the-variants as Refusals
+use Rattle.answer.specs.declared.Ratio.{Ratio}
+use Rattle.answer.specs.declared.Moved.{Moved}
+use Rattle.answer.specs.declared.Answer.the-variants as Answers
+use Rattle.answer.specs.Answers.{numberOf, drawsOf}
+use Rattle.random.specs.declared.Random.{Random}
+use Rattle.random.specs.Generator.{after}
+use Rattle.random.specs.Draw.{Draw, supplyOf, allowed}
+use Rattle.tree.specs.declared.Verdict.{Verdict}
+use Rattle.tree.specs.declared.Verdict.the-variants as Verdicts
+use Rattle.tree.specs.Tree.{Tree, nodesOf, tipsOf}
+use Rattle.tree.specs.New.{Accepted}
+use Rattle.calls.specs.Call.{Reply, makes, notFinite, outside, runCall, Outcome, declined, moved, calledOn, leaves}
+use Rattle.calls.specs.CallLaws.{allows}
+use Rattle.calls.specs.LeavesLaws.{Replied, leaves-refused, leaves-kept, leaves-steps, leaves-within, leaves-larger, leaves-enough, leaves-moved, leaves-declined, leaves-infinite, leaves-outside}
+use Rattle.moves.specs.Ends.{treeAfter, Ends}
+use Rattle.moves.specs.EndsLaws.{run-ends}
+use Rattle.process.specs.declared.FossilizedBirthDeath.{FossilizedBirthDeath}
+use Rattle.process.specs.Process.{processFinite}
+use Rattle.ages.specs.Ages.{atFault, Judged}
+use Rattle.dating.specs.TipAge.{tipAge, agesChecked, tipAgeCall}
+use Rattle.dating.specs.AgeEnds.{AgeAdmitted, AgeDeclined, AgeStrays, AgeExplained, is-moved, is-declined, is-outside}
+use Rattle.dating.specs.AgeExplainedLaws.{age-explained}
+use Rattle.dating.specs.AgeCheckLaws.{ages-fine, ages-same, ages-smaller, ages-few}
+
+-- a call that is refused with a 6 or more passed its checks, which refuse with 5 at most
+late : (t : Tree) (program : Draw (Reply Outcome)) (g : Random) (a : ℕ) (v : Verdict) → ((why : Refusal) → v ≡ Verdicts.Refused why → numberOf why ≤ 5)
+    → (why : Refusal) → 6 ≤ numberOf why → leaves t g (runCall v program g a) .answer ≡ Answers.Refused why → v ≡ Verdicts.Fine
+unfolding leaves
+late t program g a Verdicts.Fine few why h e = refl
+late t program g a (Verdicts.Refused y) few why h e = let k = few why (ap Verdicts.Refused cc) in absurd (omega arith)
+
+module _ (minima maxima : List Float) (p : FossilizedBirthDeath) (t : Tree) (g : Random) (table : Verdict) where
+  abbrev checks : ℕ → Verdict
+  checks a = agesChecked minima maxima p t a table
+
+  abbrev program : Draw (Reply Outcome)
+  program = tipAge minima maxima t
+
+  -- on a tree that `Tree::new` accepts, with an age for each tip and no tip at fault, finite fields and an allowance within its limits, a call ends
+  -- as moved, as declined, or in refusal 6, 7 or 8
+  pub age-ends : Accepted t → length minima ≡ tipsOf (nodesOf (t .pairs)) → length maxima ≡ tipsOf (nodesOf (t .pairs))
+      → Judged (atFault p minima maxima) (tipsOf (nodesOf (t .pairs))) table → ((k : ℕ) → k < tipsOf (nodesOf (t .pairs)) → atFault p minima maxima k ≡ false)
+      → processFinite p ≡ true → (a : ℕ) → allowed a ≡ true → Ends (tipAgeCall minima maxima p t g a table .answer)
+  unfolding tipAgeCall
+  age-ends v l u j f h a k = run-ends t program g (checks a) (ages-fine minima maxima p t table v l u j f h a k) a
+
+  -- a refused call, whatever it was given, hands back the generator, the pairs, the parents and the heights as they came
+  pub age-refused : (a : ℕ) (why : Refusal) → tipAgeCall minima maxima p t g a table .answer ≡ Answers.Refused why
+      → tipAgeCall minima maxima p t g a table ≡ calledOn (Answers.Refused why) g t
+  unfolding tipAgeCall
+  age-refused a why = leaves-refused t program g (checks a) a why
+
+  -- ---- draws
+
+  -- the generator is stepped as often as the answer says that draws were made, and a refused call makes none
+  pub age-steps : (a : ℕ) → tipAgeCall minima maxima p t g a table .random ≡ after (drawsOf (tipAgeCall minima maxima p t g a table .answer)) g
+  unfolding tipAgeCall
+  age-steps a = leaves-steps t program g (checks a) a
+
+  -- no more than are allowed
+  pub age-within : (a : ℕ) → drawsOf (tipAgeCall minima maxima p t g a table .answer) ≤ a
+  unfolding tipAgeCall
+  age-within a = leaves-within t program g (checks a) a
+
+  -- ---- what an answer comes from
+
+  -- the program's reply
+  comes : (a : ℕ) (r : Reply Outcome) → Replied program g (checks a) a r → AgeExplained minima maxima t r
+  comes a r c = age-explained minima maxima t (supplyOf g a) r (c .supply) (c .ran)
+
+  -- a moved call is a tip and a drawn height that the rule admits, with the tree and the ratio that they make
+  pub age-admitted : (a : ℕ) (v : Moved) → tipAgeCall minima maxima p t g a table .answer ≡ Answers.Moved v
+      → AgeAdmitted minima maxima t (treeAfter (tipAgeCall minima maxima p t g a table) (v .root)) (v .ratio)
+  unfolding tipAgeCall
+  age-admitted a v q = admits (comes a _ (leaves-moved t program g (checks a) a v q))
+    where
+      admits : {u : Tree} {r : Ratio} → AgeExplained minima maxima t (makes (moved u r)) → AgeAdmitted minima maxima t u r
+      admits (is-moved x) = x
+
+  -- a declined call has drawn a tip for which the rule declines
+  pub age-declined : (a draws : ℕ) → tipAgeCall minima maxima p t g a table .answer ≡ Answers.Declined draws → AgeDeclined minima maxima t
+  unfolding tipAgeCall
+  age-declined a draws q = declines-so (comes a _ (leaves-declined t program g (checks a) a draws q))
+    where
+      declines-so : AgeExplained minima maxima t (makes declined) → AgeDeclined minima maxima t
+      declines-so (is-declined x) = x
+
+  -- and leaves the pairs, the parents and the heights as they came
+  pub age-kept : (a draws : ℕ) → tipAgeCall minima maxima p t g a table .answer ≡ Answers.Declined draws
+      → tipAgeCall minima maxima p t g a table ≡ calledOn (Answers.Declined draws) (after draws g) t
+  unfolding tipAgeCall
+  age-kept a draws = leaves-kept t program g (checks a) a draws
+
+  -- where the table is said to be fine or some tip at fault is named
+  module _ (j : Judged (atFault p minima maxima) (tipsOf (nodesOf (t .pairs))) table) (a k : ℕ) where
+    ran : (why : Refusal) → 6 ≤ numberOf why → leaves t g (runCall (checks a) program g a) .answer ≡ Answers.Refused why → checks a ≡ Verdicts.Fine
+    ran = late t program g a (checks a) (ages-few minima maxima p t table j a)
+
+    -- an 8 names a tip whose drawn height is outside its interval
+    pub age-outside : tipAgeCall minima maxima p t g a table .answer ≡ Answers.Refused (Refusals.Outside k) → AgeStrays minima maxima t k
+    unfolding tipAgeCall
+    age-outside q = strays (comes a _ (leaves-outside t program g (checks a) a (ran (Refusals.Outside k) (omega arith) q) k q))
+      where
+        strays : AgeExplained minima maxima t (outside k) → AgeStrays minima maxima t k
+        strays (is-outside x) = x
+
+    -- no call is refused with a 7
+    pub age-finite : tipAgeCall minima maxima p t g a table .answer ≡ Answers.Refused (Refusals.NotFinite k) → ⊥
+    unfolding tipAgeCall
+    age-finite q = never (comes a _ (leaves-infinite t program g (checks a) a (ran (Refusals.NotFinite k) (omega arith) q) k q))
+      where
+        never : AgeExplained minima maxima t (notFinite k) → ⊥
+        never = elim [ ]
+
+  -- ---- other allowances
+
+  -- what was answered with an allowance is answered with a larger one, unless it was a 6
+  pub age-larger : (a b : ℕ) → 1 ≤ a → a ≤ b → b ≤ 65535 → (tipAgeCall minima maxima p t g a table .answer ≡ Answers.Refused (Refusals.Allowance a) → ⊥)
+      → tipAgeCall minima maxima p t g b table ≡ tipAgeCall minima maxima p t g a table
+  unfolding tipAgeCall
+  age-larger a b h o k =
+      let y = ages-same minima maxima p t table a b (allows a h (omega arith)) (allows b (omega arith) k) in
+      leaves-larger t program g (checks a) (checks b) a b y o
+
+  -- an allowance of as many draws as a call makes is enough: a 6 is answered only where more draws would be made
+  pub age-enough : (a b : ℕ) → 1 ≤ a → a ≤ b → ((why : Refusal) → tipAgeCall minima maxima p t g b table .answer ≡ Answers.Refused why → ⊥)
+      → drawsOf (tipAgeCall minima maxima p t g b table .answer) ≤ a → tipAgeCall minima maxima p t g a table ≡ tipAgeCall minima maxima p t g b table
+  unfolding tipAgeCall
+  age-enough a b h k = leaves-enough t program g (checks a) (checks b) a b (ages-smaller minima maxima p t table a b h k) k
