@@ -1,4 +1,4 @@
--- `validate` refuses with 1 to 4 and nothing else (`validated-few`). Assumes nothing.
+-- `validate` refuses with 1 to 4 and nothing else (`validated-few`); a bound for a refusal's number may be weakened (`few-more`). Assumes nothing.
 use mathlib.Core.Bool.{Bool, true, false, _&&_, _||_, cond}
 use mathlib.Core.List.{List, [], _∷_}
 use Prim.Native.Nat.{ℕ, zero, suc, _≤_}
@@ -18,7 +18,7 @@ AtMost m Verdicts.Fine = Unit {0}
 AtMost m (Verdicts.Refused why) = numberOf why ≤ m
 
 -- a property of one of two
-either : {A : Type 0} (P : A → Type 0) (b : Bool) {x y : A} → P x → P y → P (cond b x y)
+pub either : {A : Type 0} (P : A → Type 0) (b : Bool) {x y : A} → P x → P y → P (cond b x y)
 either P true h k = h
 either P false h k = k
 
@@ -82,3 +82,8 @@ validated-few t =
     let n = nodesOf (t .pairs) in
     either (AtMost 4) (sizeFits n (t .pairs) (t .heights) && eqb (length (t .parents)) n) {y = Verdicts.Refused (Size n)}
     (judged-few t n (t .pairs) (scan n (t .pairs) n) (scan-few n (t .pairs) n)) (omega arith)
+
+-- a larger bound holds too
+pub few-more : (m n : ℕ) → m ≤ n → (v : Verdict) → AtMost m v → AtMost n v
+few-more m n h Verdicts.Fine k = tt
+few-more m n h (Verdicts.Refused why) k = omega arith

@@ -1,20 +1,24 @@
 -- What holds of every call on a tree, whatever its program: RunLaws with the checks of the tree and the limits. In order: what a call that was not
 -- turned back has passed and drawn (`call-given`); steps (`call-steps`, `call-within`); other allowances (`call-larger`, `call-enough`); and what
--- turns a call back past its checks (`call-refused`). Assumes nothing.
+-- turns a call back past its checks (`call-refused`) and by them (`checked-few`). Assumes nothing.
 use mathlib.Core.Path.{_≡_}
 use mathlib.Core.Logic.{_⊎_}
-use mathlib.Core.Bool.{Bool, true, and-eq-true-iff}
+use mathlib.Core.Bool.{Bool, true, _&&_, and-eq-true-iff}
 use Prim.Native.Nat.{ℕ, _-_, _≤_}
 use native.Mathlib.Omega.{arith}
 use lib.Dec.{leb}
 use borrow.Author.Tests.{le-leb, leb-true}
 use Rattle.answer.specs.declared.Refusal.{Refusal}
-use Rattle.answer.specs.declared.Refusal.the-variants.{Allowance, NotFinite, Outside}
+use Rattle.answer.specs.declared.Refusal.the-variants.{Parameter, Allowance, NotFinite, Outside}
 use Rattle.random.specs.declared.Random.{Random}
 use Rattle.random.specs.Generator.{after}
 use Rattle.random.specs.Draw.{Draw, got, run, supplyOf, allowed}
+use Rattle.tree.specs.declared.Verdict.{Verdict}
+use Rattle.tree.specs.declared.Verdict.the-variants as Verdicts
 use Rattle.tree.specs.Tree.{Tree}
-use Rattle.calls.specs.Call.{Reply, makes, refused, given, checked, callOf}
+use Rattle.tree.specs.New.{validated}
+use Rattle.accepted.specs.RefusalLaws.{AtMost, either, validated-few, few-more}
+use Rattle.calls.specs.Call.{Reply, makes, refused, given, andThen, limited, checked, callOf}
 use Rattle.calls.specs.EntryLaws.{Passed, passed}
 use Rattle.calls.specs.RunLaws.{run-given, run-steps, run-within, run-larger, run-enough, run-refused}
 
@@ -84,3 +88,20 @@ module _ {A : Type 0} (limits : Bool) (program : Draw (Reply A)) (t : Tree) (g :
       → (why ≡ Allowance allowance) ⊎ ((k : ℕ) × ((why ≡ NotFinite k) ⊎ (why ≡ Outside k)))
   unfolding callOf checked
   call-refused allowance p why = run-refused program g (checked limits t allowance) (rw (p .tree, p .within, p .allows)) allowance why
+
+-- ---- the checks' own refusals
+
+-- two checks in turn refuse with at most what each does
+pub then-few : (m : ℕ) (v w : Verdict) → AtMost m v → AtMost m w → AtMost m (andThen v w)
+then-few m Verdicts.Fine w h k = k
+then-few m (Verdicts.Refused why) w h k = h
+
+-- limits refuse with a 5
+pub limited-few : (limits : Bool) (allowance : ℕ) → AtMost 5 (limited limits allowance)
+limited-few limits allowance = either (AtMost 5) (limits && allowed allowance) {x = Verdicts.Fine} {y = Verdicts.Refused (Parameter 0)} tt (omega arith)
+
+-- the checks of a call on a tree refuse with 1 to 5
+pub checked-few : (limits : Bool) (t : Tree) (allowance : ℕ) → AtMost 5 (checked limits t allowance)
+unfolding checked
+checked-few limits t allowance =
+    then-few 5 (validated t) (limited limits allowance) (few-more 4 5 (omega arith) (validated t) (validated-few t)) (limited-few limits allowance)

@@ -9,7 +9,7 @@ use Rattle.answer.specs.declared.Refusal.the-variants.{Allowance, NotFinite, Ou
 use Rattle.answer.specs.declared.Moved.{Moved}
 use Rattle.answer.specs.declared.Answer.{Answer}
 use Rattle.answer.specs.declared.Answer.the-variants as Answers
-use Rattle.answer.specs.Answers.{drawsOf}
+use Rattle.answer.specs.Answers.{numberOf, drawsOf}
 use Rattle.random.specs.declared.Random.{Random}
 use Rattle.random.specs.declared.Supply.{Supply}
 use Rattle.random.specs.Generator.{after}
@@ -18,6 +18,7 @@ use Rattle.tree.specs.declared.Verdict.{Verdict}
 use Rattle.tree.specs.declared.Verdict.the-variants as Verdicts
 use Rattle.tree.specs.Tree.{Tree}
 use Rattle.tree.specs.Given.{treeOf}
+use Rattle.accepted.specs.RefusalLaws.{AtMost}
 use Rattle.calls.specs.Call.{Reply, makes, notFinite, outside, Ending, refused, given, ended, runCall, Outcome, declined, moved, calledOn, leaves}
 use Rattle.calls.specs.RunLaws.{run-given, run-steps, run-within, run-larger, run-enough}
 
@@ -141,7 +142,12 @@ module _ (t : Tree) (program : Draw (Reply Outcome)) (g : Random) where
         go (given declined d h) e q = given-so declined d h e
         go (given (moved u r) d h) e q = clash cc
 
-    -- of a call that passed its checks
+    -- where the checks refuse with 5 at most, a call that is refused with 6 or more passed them
+    late : (w : Verdict) → AtMost 5 w → (why : Refusal) → 6 ≤ numberOf why → leaves t g (runCall w program g a) .answer ≡ Answers.Refused why → w ≡ Verdicts.Fine
+    unfolding leaves
+    late Verdicts.Fine few why h e = refl
+    late (Verdicts.Refused z) few why h e = let same : z ≡ why = cc in let k : numberOf why ≤ 5 = rw same at few in absurd (omega arith)
+
     module _ (y : v ≡ Verdicts.Fine) where
       turned : (why : Refusal) → leaves t g (runCall v program g a) .answer ≡ Answers.Refused why → ended a (run program (supplyOf g a)) ≡ refused why
       unfolding leaves
@@ -152,24 +158,24 @@ module _ (t : Tree) (program : Draw (Reply Outcome)) (g : Random) where
           go (given declined d h) e = clash cc
           go (given (moved u r) d h) e = clash cc
 
-      -- a 7 is the program's
-      pub leaves-infinite : (k : ℕ) → leaves t g (runCall v program g a) .answer ≡ Answers.Refused (NotFinite k) → Replied program g v a (notFinite k)
-      unfolding ended
-      leaves-infinite k q = go (run program (supplyOf g a)) refl (turned (NotFinite k) q)
-        where
-          go : (d : Drawn (Reply Outcome)) → run program (supplyOf g a) ≡ d → ended a d ≡ refused (NotFinite k) → Replied program g v a (notFinite k)
-          go spent e q = clash cc
-          go (got (notFinite j) s) e q = let z : j ≡ k = cc in record { fine = y; supply = s; ran = e ∙ ap (λ (i : ℕ). got (notFinite i) s) z }
-          go (got (outside j) s) e q = clash cc
-          go (got (makes o) s) e q = clash cc
+    -- a 7 is the program's
+    pub leaves-infinite : AtMost 5 v → (k : ℕ) → leaves t g (runCall v program g a) .answer ≡ Answers.Refused (NotFinite k) → Replied program g v a (notFinite k)
+    unfolding ended
+    leaves-infinite few k q = let y = late v few (NotFinite k) (omega arith) q in go y (run program (supplyOf g a)) refl (turned y (NotFinite k) q)
+      where
+        go : v ≡ Verdicts.Fine → (d : Drawn (Reply Outcome)) → run program (supplyOf g a) ≡ d → ended a d ≡ refused (NotFinite k) → Replied program g v a (notFinite k)
+        go y spent e q = clash cc
+        go y (got (notFinite j) s) e q = let z : j ≡ k = cc in record { fine = y; supply = s; ran = e ∙ ap (λ (i : ℕ). got (notFinite i) s) z }
+        go y (got (outside j) s) e q = clash cc
+        go y (got (makes o) s) e q = clash cc
 
-      -- an 8 is the program's
-      pub leaves-outside : (k : ℕ) → leaves t g (runCall v program g a) .answer ≡ Answers.Refused (Outside k) → Replied program g v a (outside k)
-      unfolding ended
-      leaves-outside k q = go (run program (supplyOf g a)) refl (turned (Outside k) q)
-        where
-          go : (d : Drawn (Reply Outcome)) → run program (supplyOf g a) ≡ d → ended a d ≡ refused (Outside k) → Replied program g v a (outside k)
-          go spent e q = clash cc
-          go (got (notFinite j) s) e q = clash cc
-          go (got (outside j) s) e q = let z : j ≡ k = cc in record { fine = y; supply = s; ran = e ∙ ap (λ (i : ℕ). got (outside i) s) z }
-          go (got (makes o) s) e q = clash cc
+    -- an 8 is the program's
+    pub leaves-outside : AtMost 5 v → (k : ℕ) → leaves t g (runCall v program g a) .answer ≡ Answers.Refused (Outside k) → Replied program g v a (outside k)
+    unfolding ended
+    leaves-outside few k q = let y = late v few (Outside k) (omega arith) q in go y (run program (supplyOf g a)) refl (turned y (Outside k) q)
+      where
+        go : v ≡ Verdicts.Fine → (d : Drawn (Reply Outcome)) → run program (supplyOf g a) ≡ d → ended a d ≡ refused (Outside k) → Replied program g v a (outside k)
+        go y spent e q = clash cc
+        go y (got (notFinite j) s) e q = clash cc
+        go y (got (outside j) s) e q = let z : j ≡ k = cc in record { fine = y; supply = s; ran = e ∙ ap (λ (i : ℕ). got (outside i) s) z }
+        go y (got (makes o) s) e q = clash cc

@@ -1,6 +1,6 @@
 -- The checks of a call of TipAge. In order: what they pass (`ages-fine`); that they say the same of two allowances within the limits (`ages-same`),
 -- and of one smaller than one that they pass (`ages-smaller`); and that they refuse with 5 at most (`ages-few`). Assumes nothing.
-use mathlib.Core.Path.{_≡_, refl, subst}
+use mathlib.Core.Path.{_≡_, refl}
 use mathlib.Core.Bool.{Bool, true, false, _&&_, cond}
 use mathlib.Core.List.{List}
 use Prim.Native.Nat.{ℕ, _≤_, _<_}
@@ -9,9 +9,7 @@ use lib.Dec.{eqb}
 use lib.ListN.{length}
 use lib.Ieee.{Float}
 use borrow.Author.Tests.{eq-eqb}
-use Rattle.answer.specs.declared.Refusal.{Refusal}
 use Rattle.answer.specs.declared.Refusal.the-variants.{Size, Parameter}
-use Rattle.answer.specs.Answers.{numberOf}
 use Rattle.random.specs.Draw.{allowed}
 use Rattle.tree.specs.declared.Verdict.{Verdict}
 use Rattle.tree.specs.declared.Verdict.the-variants as Verdicts
@@ -19,9 +17,9 @@ use Rattle.tree.specs.Tree.{Tree, nodesOf, tipsOf}
 use Rattle.tree.specs.New.{Accepted, validated}
 use Rattle.accepted.specs.AcceptedLaws.{accepted-valid}
 use Rattle.accepted.specs.ValidatedLaws.{valid-fine}
-use Rattle.accepted.specs.RefusalLaws.{AtMost, validated-few}
+use Rattle.accepted.specs.RefusalLaws.{AtMost, either, validated-few, few-more}
 use Rattle.calls.specs.Call.{andThen, limited}
-use Rattle.calls.specs.CallLaws.{allows, allowed-top}
+use Rattle.calls.specs.CallLaws.{allows, allowed-top, then-few, limited-few}
 use Rattle.process.specs.declared.FossilizedBirthDeath.{FossilizedBirthDeath}
 use Rattle.process.specs.Process.{processFinite}
 use Rattle.ages.specs.Ages.{atFault, tableSized, Judged, in-order, some-tip}
@@ -48,21 +46,7 @@ limits-fine false c e = clash cc
 
 -- ---- numbers
 
--- a property of one of two
-either : {A : Type 0} (P : A → Type 0) (b : Bool) {x y : A} → P x → P y → P (cond b x y)
-either P true h k = h
-either P false h k = k
-
-then-few : (m : ℕ) (v w : Verdict) → AtMost m v → AtMost m w → AtMost m (andThen v w)
-then-few m Verdicts.Fine w h k = k
-then-few m (Verdicts.Refused why) w h k = h
-
--- of a tree
-tree-few : (v : Verdict) → AtMost 4 v → AtMost 5 v
-tree-few Verdicts.Fine h = tt
-tree-few (Verdicts.Refused why) h = omega arith
-
--- of a table
+-- what may be said of a table is fine, or a 5
 table-few : (fault : ℕ → Bool) (tips : ℕ) (v : Verdict) → Judged fault tips v → AtMost 5 v
 table-few fault tips v (in-order f) = tt
 table-few fault tips v (some-tip k l e) = omega arith
@@ -109,16 +93,14 @@ module _ (minima maxima : List Float) (p : FossilizedBirthDeath) (t : Tree) (tab
 
   -- ---- refusals
 
-  -- a call that its checks turn back is refused with at most a 5
-  pub ages-few : Judged (atFault p minima maxima) (tipsOf (nodesOf (t .pairs))) table → (a : ℕ) (why : Refusal)
-      → agesChecked minima maxima p t a table ≡ Verdicts.Refused why → numberOf why ≤ 5
+  -- the checks refuse with 1 to 5
+  pub ages-few : Judged (atFault p minima maxima) (tipsOf (nodesOf (t .pairs))) table → (a : ℕ) → AtMost 5 (agesChecked minima maxima p t a table)
   unfolding agesChecked
-  ages-few j a why e = subst (AtMost 5) e
-      (then-few 5 (tableSized n minima maxima) (andThen (validated t) (andThen table (limited (processFinite p) a)))
+  ages-few j a =
+      then-few 5 (tableSized n minima maxima) (andThen (validated t) (andThen table (limited (processFinite p) a)))
       (either (AtMost 5) (eqb (length minima) (tipsOf n) && eqb (length maxima) (tipsOf n)) {x = Verdicts.Fine} {y = Verdicts.Refused (Size n)} tt (omega arith))
-      (then-few 5 (validated t) (andThen table (limited (processFinite p) a)) (tree-few (validated t) (validated-few t))
-      (then-few 5 table (limited (processFinite p) a) (table-few (atFault p minima maxima) (tipsOf n) table j)
-      (either (AtMost 5) (processFinite p && allowed a) {x = Verdicts.Fine} {y = Verdicts.Refused (Parameter 0)} tt (omega arith)))))
+      (then-few 5 (validated t) (andThen table (limited (processFinite p) a)) (few-more 4 5 (omega arith) (validated t) (validated-few t))
+      (then-few 5 table (limited (processFinite p) a) (table-few (atFault p minima maxima) (tipsOf n) table j) (limited-few (processFinite p) a)))
     where
       n : ℕ
       n = nodesOf (t .pairs)

@@ -2,7 +2,7 @@
 -- (AgeExplainedLaws). In order: demand 1 (`age-ends`, `age-refused`); the draws made (`age-steps`, `age-within`); what a moved, a declined and a refused
 -- call come from (`age-admitted`, `age-declined`, `age-kept`, `age-outside`, `age-finite`); and other allowances (`age-larger`, `age-enough`). Assumes
 -- nothing.
-use mathlib.Core.Path.{_≡_, refl, ap}
+use mathlib.Core.Path.{_≡_}
 use mathlib.Core.Bool.{true, false}
 use mathlib.Core.List.{List}
 use Prim.Native.Nat.{ℕ, _≤_, _<_}
@@ -14,15 +14,14 @@ use Rattle.answer.specs.declared.Refusal.the-variants as Refusals
 use Rattle.answer.specs.declared.Ratio.{Ratio}
 use Rattle.answer.specs.declared.Moved.{Moved}
 use Rattle.answer.specs.declared.Answer.the-variants as Answers
-use Rattle.answer.specs.Answers.{numberOf, drawsOf}
+use Rattle.answer.specs.Answers.{drawsOf}
 use Rattle.random.specs.declared.Random.{Random}
 use Rattle.random.specs.Generator.{after}
 use Rattle.random.specs.Draw.{Draw, supplyOf, allowed}
 use Rattle.tree.specs.declared.Verdict.{Verdict}
-use Rattle.tree.specs.declared.Verdict.the-variants as Verdicts
 use Rattle.tree.specs.Tree.{Tree, nodesOf, tipsOf}
 use Rattle.tree.specs.New.{Accepted}
-use Rattle.calls.specs.Call.{Reply, makes, notFinite, outside, runCall, Outcome, declined, moved, calledOn, leaves}
+use Rattle.calls.specs.Call.{Reply, makes, notFinite, outside, Outcome, declined, moved, calledOn}
 use Rattle.calls.specs.CallLaws.{allows}
 use Rattle.calls.specs.LeavesLaws.{Replied, leaves-refused, leaves-kept, leaves-steps, leaves-within, leaves-larger, leaves-enough, leaves-moved, leaves-declined, leaves-infinite, leaves-outside}
 use Rattle.moves.specs.Ends.{treeAfter, Ends}
@@ -34,13 +33,6 @@ use Rattle.dating.specs.TipAge.{tipAge, agesChecked, tipAgeCall}
 use Rattle.dating.specs.AgeEnds.{AgeAdmitted, AgeDeclined, AgeStrays, AgeExplained, is-moved, is-declined, is-outside}
 use Rattle.dating.specs.AgeExplainedLaws.{age-explained}
 use Rattle.dating.specs.AgeCheckLaws.{ages-fine, ages-same, ages-smaller, ages-few}
-
--- a call that is refused with a 6 or more passed its checks, which refuse with 5 at most
-late : (t : Tree) (program : Draw (Reply Outcome)) (g : Random) (a : ℕ) (v : Verdict) → ((why : Refusal) → v ≡ Verdicts.Refused why → numberOf why ≤ 5)
-    → (why : Refusal) → 6 ≤ numberOf why → leaves t g (runCall v program g a) .answer ≡ Answers.Refused why → v ≡ Verdicts.Fine
-unfolding leaves
-late t program g a Verdicts.Fine few why h e = refl
-late t program g a (Verdicts.Refused y) few why h e = let k = few why (ap Verdicts.Refused cc) in absurd (omega arith)
 
 module _ (minima maxima : List Float) (p : FossilizedBirthDeath) (t : Tree) (g : Random) (table : Verdict) where
   abbrev checks : ℕ → Verdict
@@ -106,13 +98,10 @@ module _ (minima maxima : List Float) (p : FossilizedBirthDeath) (t : Tree) (g :
 
   -- where the table is said to be fine or some tip at fault is named
   module _ (j : Judged (atFault p minima maxima) (tipsOf (nodesOf (t .pairs))) table) (a k : ℕ) where
-    ran : (why : Refusal) → 6 ≤ numberOf why → leaves t g (runCall (checks a) program g a) .answer ≡ Answers.Refused why → checks a ≡ Verdicts.Fine
-    ran = late t program g a (checks a) (ages-few minima maxima p t table j a)
-
     -- an 8 names a tip whose drawn height is outside its interval
     pub age-outside : tipAgeCall minima maxima p t g a table .answer ≡ Answers.Refused (Refusals.Outside k) → AgeStrays minima maxima t k
     unfolding tipAgeCall
-    age-outside q = strays (comes a _ (leaves-outside t program g (checks a) a (ran (Refusals.Outside k) (omega arith) q) k q))
+    age-outside q = strays (comes a _ (leaves-outside t program g (checks a) a (ages-few minima maxima p t table j a) k q))
       where
         strays : AgeExplained minima maxima t (outside k) → AgeStrays minima maxima t k
         strays (is-outside x) = x
@@ -120,7 +109,7 @@ module _ (minima maxima : List Float) (p : FossilizedBirthDeath) (t : Tree) (g :
     -- no call is refused with a 7
     pub age-finite : tipAgeCall minima maxima p t g a table .answer ≡ Answers.Refused (Refusals.NotFinite k) → ⊥
     unfolding tipAgeCall
-    age-finite q = never (comes a _ (leaves-infinite t program g (checks a) a (ran (Refusals.NotFinite k) (omega arith) q) k q))
+    age-finite q = never (comes a _ (leaves-infinite t program g (checks a) a (ages-few minima maxima p t table j a) k q))
       where
         never : AgeExplained minima maxima t (notFinite k) → ⊥
         never = elim [ ]

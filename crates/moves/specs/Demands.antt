@@ -26,7 +26,7 @@ use Rattle.reversal.specs.Reversal.{reversal}
 use Rattle.calls.specs.Call.{Reply, makes, notFinite, outside, checked, callOf, Outcome, calledOn, treeCall}
 use Rattle.calls.specs.Call as Call
 use Rattle.calls.specs.EntryLaws.{passed}
-use Rattle.calls.specs.CallLaws.{allows, allowed-top, same-checks}
+use Rattle.calls.specs.CallLaws.{checked-few, allows, allowed-top, same-checks}
 use Rattle.calls.specs.LeavesLaws.{Replied, leaves-refused, leaves-kept, leaves-steps, leaves-within, leaves-larger, leaves-enough, leaves-moved, leaves-declined, leaves-infinite, leaves-outside}
 use Rattle.moves.specs.Moves.{Move, limits, program, moveCall}
 use Rattle.moves.specs.Explained.{Admits, Admitted, Declined, Overflows, Strays, Explained, is-moved, is-declined, is-infinite, is-outside}
@@ -97,23 +97,21 @@ module _ (m : Move) (t : Tree) (g : Random) where
   unfolding treeCall callOf
   declined-unchanged a draws = leaves-kept t (program m t) g (checked (limits m t) t a) a draws
 
-  -- of a call on an accepted tree, with parameters within their limits
-  module _ (v : Accepted t) (l : limits m t ≡ true) (a : ℕ) (h : allowed a ≡ true) where
-    -- a 7 is a new height that is not finite, the lowest node's
-    pub infinite : (k : ℕ) → moveCall m t g a .answer ≡ Answers.Refused (Refusals.NotFinite k) → Overflows m t k
-    unfolding treeCall callOf
-    infinite k q = over (comes a _ (leaves-infinite t (program m t) g (checked (limits m t) t a) a (fine m t v l a h) k q))
-      where
-        over : Explained m t (notFinite k) → Overflows m t k
-        over (is-infinite x) = x
+  -- a 7 is a new height that is not finite, the lowest node's
+  pub infinite : (a k : ℕ) → moveCall m t g a .answer ≡ Answers.Refused (Refusals.NotFinite k) → Overflows m t k
+  unfolding treeCall callOf
+  infinite a k q = over (comes a _ (leaves-infinite t (program m t) g (checked (limits m t) t a) a (checked-few (limits m t) t a) k q))
+    where
+      over : Explained m t (notFinite k) → Overflows m t k
+      over (is-infinite x) = x
 
-    -- an 8 is a drawn height outside its interval
-    pub outside-interval : (k : ℕ) → moveCall m t g a .answer ≡ Answers.Refused (Refusals.Outside k) → Strays m t k
-    unfolding treeCall callOf
-    outside-interval k q = strays (comes a _ (leaves-outside t (program m t) g (checked (limits m t) t a) a (fine m t v l a h) k q))
-      where
-        strays : Explained m t (outside k) → Strays m t k
-        strays (is-outside x) = x
+  -- an 8 is a drawn height outside its interval
+  pub outside-interval : (a k : ℕ) → moveCall m t g a .answer ≡ Answers.Refused (Refusals.Outside k) → Strays m t k
+  unfolding treeCall callOf
+  outside-interval a k q = strays (comes a _ (leaves-outside t (program m t) g (checked (limits m t) t a) a (checked-few (limits m t) t a) k q))
+    where
+      strays : Explained m t (outside k) → Strays m t k
+      strays (is-outside x) = x
 
   -- ---- other allowances
 
