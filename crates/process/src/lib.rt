@@ -9,7 +9,7 @@ use kinds::Move;
 use real::Optional;
 use tree::Verdict;
 
-// The process, all in time before the present.
+// The process: three rates, the probability that a tip at the present is sampled, and the age of the origin.
 pub struct FossilizedBirthDeath {
     pub birth: f64,
     pub death: f64,
