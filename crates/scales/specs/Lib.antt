@@ -1,4 +1,6 @@
 -- Scales has the definitions that the contracts of scales cite, Given the forms of the code; FactorLaws serve the code of all scales of parameters.
+-- Rows are calls by the definitions.
 pub mod Scales
 pub mod Given
 pub mod FactorLaws
+pub mod Rows
