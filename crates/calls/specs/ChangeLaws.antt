@@ -1,6 +1,7 @@
 -- What holds of every call on parameters, whatever its program. In order: what it leaves, by how its checks and its program end (`value-limits`,
 -- `value-spent`, `value-declined`, `value-scaled`, `value-undrawn`, for the code of the calls) and from the call on a part (`value-part`); steps (`value-steps`,
--- `value-within`); what is not changed (`value-refused`, `value-kept`); other allowances (`value-larger`, `value-enough`); and that nothing but 5
+-- `value-within`); what is not changed (`value-refused`, `value-kept`); how the program's run ended
+-- (`value-made`, `value-unmade`); other allowances (`value-larger`, `value-enough`); and that nothing but 5
 -- and 6 turns it back (`value-refusals`). Assumes nothing.
 use mathlib.Core.Path.{_≡_, refl, ap, _∙_}
 use mathlib.Core.Logic.{_⊎_, inl, inr}
@@ -148,6 +149,48 @@ module _ {P : Type 0} (limits : Bool) (program : Draw (Change P)) (v : P) (g : R
           let eh : h ≡ after draws g = run-steps (replying program) g (limited limits a) a declined d h e ∙ ap (λ (k : ℕ). after k g) ed in
           λ i. proposed (Proposals.Declined (ed i)) (eh i) v
       go (given (scaled w r) d h) e q = clash cc
+
+  -- ---- how the program's run ended
+
+  -- the limits held, and the run gave this change
+  pub record Changed (a : ℕ) (c : Change P) : Type 0 where
+    pub fine : limits && allowed a ≡ true
+    pub supply : Supply
+    pub ran : run program (supplyOf g a) ≡ got c supply
+
+  changed : (a : ℕ) (c : Change P) (d : ℕ) (h : Random) → ending a ≡ given c d h → Changed a c
+  unfolding ended replied onward
+  changed a c d h = go (limits && allowed a) refl
+    where
+      drawn : limits && allowed a ≡ true → (x : Drawn (Change P)) → run program (supplyOf g a) ≡ x → ended a (replied x) ≡ given c d h → Changed a c
+      drawn f spent e q = clash cc
+      drawn f (got b u) e q = let z : b ≡ c = cc in record { fine = f; supply = u; ran = e ∙ ap (λ (y : Change P). got y u) z }
+
+      go : (b : Bool) → limits && allowed a ≡ b → past (cond b Verdicts.Fine (Verdicts.Refused (Parameter 0))) (ended a (run (replying program) (supplyOf g a))) ≡ given c d h → Changed a c
+      go true f e = drawn f (run program (supplyOf g a)) refl (rw (replying-run program (supplyOf g a)) at e)
+      go false f e = clash cc
+
+  -- a call that scaled has drawn the value that it leaves, with its ratio
+  pub value-made : (a draws : ℕ) (r : Ratio) → valueCall limits program v g a .answer ≡ Proposals.Scaled draws r → Changed a (scaled (valueCall limits program v g a .value) r)
+  unfolding valueCall keeps
+  value-made a draws r = go (ending a) refl
+    where
+      go : (x : Ending (Change P)) → ending a ≡ x → keeps v g x .answer ≡ Proposals.Scaled draws r → Changed a (scaled (keeps v g x .value) r)
+      go (refused why) e q = clash cc
+      go (given declined d h) e q = clash cc
+      go (given (scaled w s) d h) e q =
+          let z : s ≡ r = cc in
+          changed a (scaled w r) d h (e ∙ ap (λ (y : Ratio). given (scaled w y) d h) z)
+
+  -- a call that declined has declined
+  pub value-unmade : (a draws : ℕ) → valueCall limits program v g a .answer ≡ Proposals.Declined draws → Changed a declined
+  unfolding valueCall keeps
+  value-unmade a draws = go (ending a) refl
+    where
+      go : (x : Ending (Change P)) → ending a ≡ x → keeps v g x .answer ≡ Proposals.Declined draws → Changed a declined
+      go (refused why) e q = clash cc
+      go (given declined d h) e q = changed a declined d h e
+      go (given (scaled w s) d h) e q = clash cc
 
   -- ---- other allowances
 

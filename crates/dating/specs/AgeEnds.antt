@@ -10,7 +10,7 @@ use Rattle.answer.specs.declared.Ratio.{Ratio}
 use Rattle.tree.specs.Tree.{Tree, nodesOf, tipsOf}
 use Rattle.rules.specs.Rules.{within, ceiling, TipAgeListed, tipAgeDeclines, tipMoved, tipAgeRatio}
 use Rattle.calls.specs.Call.{Reply, makes, outside, Outcome, declined, moved}
-use Rattle.moves.specs.Explained.{Between}
+use Rattle.calls.specs.Chosen.{Between}
 use Rattle.ages.specs.declared.TipAge.{TipAge}
 use Rattle.ages.specs.Ages.{ageOf}
 

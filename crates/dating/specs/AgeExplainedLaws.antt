@@ -12,7 +12,7 @@ use Rattle.tree.specs.Tree.{Tree, nodesOf, tipsOf}
 use Rattle.edits.specs.Slots.{setHeight}
 use Rattle.rules.specs.Rules.{within, ceiling, tipAgeDeclines, tipMoved, tipAgeRatio}
 use Rattle.calls.specs.Call.{Reply, makes, Outcome, moved}
-use Rattle.moves.specs.StepLaws.{cond-yields, number-yields, height-yields}
+use Rattle.calls.specs.StepLaws.{cond-yields, number-yields, height-yields}
 use Rattle.ages.specs.declared.TipAge.{TipAge}
 use Rattle.ages.specs.Ages.{ageOf}
 use Rattle.dating.specs.TipAge.{ageing, tipAge}

@@ -9,7 +9,6 @@ use lib.Dec.{T}
 use lib.Ieee.{Float}
 use lib.Ieee.Scale.{finite}
 use Rattle.answer.specs.declared.Ratio.{Ratio}
-use Rattle.random.specs.UniformLaws.{UnitFraction}
 use Rattle.real.specs.Real.{maxOf}
 use Rattle.tree.specs.Tree as Trees
 use Rattle.tree.specs.Tree.{Tree, nodesOf, parent}
@@ -18,23 +17,11 @@ use Rattle.rules.specs.Rules.{oneInternal, floor, within}
 use Rattle.rules.specs.Moves as Reversibles
 use Rattle.rules.specs.Moves.{Reversible, Choice, Makes}
 use Rattle.calls.specs.Call.{Reply, makes, notFinite, outside, Outcome, declined, moved}
-use Rattle.calls.specs.Draws.{scaler, interpolated}
+use Rattle.calls.specs.Chosen.{Factor, Between}
 use Rattle.moves.specs.Programs.{slideHeight, overflows}
 use Rattle.moves.specs.Moves.{Move, nodeHeight, subtreeSlide, narrowExchange, wideExchange, wilsonBalding, rootScale, treeScale}
 
 -- ---- what is drawn
-
--- f is the factor that a uniform gives for the tuning s
-pub record Factor (s f : Float) : Type 0 where
-  pub uniform : Float
-  pub unit : UnitFraction uniform
-  pub is : f ≡ scaler s uniform
-
--- x is the height that a uniform gives from lower to upper
-pub record Between (lower upper x : Float) : Type 0 where
-  pub uniform : Float
-  pub unit : UnitFraction uniform
-  pub is : x ≡ interpolated lower upper uniform
 
 -- NodeHeight's node: "an internal node other than the root"
 pub record HeightNode (n : ℕ) (t : Tree) (k : ℕ) : Type 0 where

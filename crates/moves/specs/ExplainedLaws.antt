@@ -27,8 +27,9 @@ use Rattle.moves.specs.Programs.{slidable, slideHeight, overflows, wilso
 use Rattle.moves.specs.Moves.{Move, nodeHeight, subtreeSlide, narrowExchange, wideExchange, wilsonBalding, rootScale, treeScale, limits, program}
 use Rattle.calls.specs.LeastLaws.{least-holds, least-below}
 use Rattle.calls.specs.YieldLaws.{NonRoot, Internal, non-root-yields, internal-yields}
-use Rattle.moves.specs.Explained.{Factor, HeightNode, WilsonNodes, Explained, is-moved, is-declined, is-infinite, is-outside}
-use Rattle.moves.specs.StepLaws.{cond-holds, cond-yields, number-yields, factor-yields, height-yields}
+use Rattle.moves.specs.Explained.{HeightNode, WilsonNodes, Explained, is-moved, is-declined, is-infinite, is-outside}
+use Rattle.calls.specs.Chosen.{Factor}
+use Rattle.calls.specs.StepLaws.{cond-holds, cond-yields, number-yields, factor-yields, height-yields}
 
 holds : {b : Bool} → b ≡ true → T b
 holds e = rw e tt

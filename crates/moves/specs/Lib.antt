@@ -3,7 +3,6 @@
 pub mod Programs
 pub mod Moves
 pub mod Explained
-pub mod StepLaws
 pub mod ExplainedLaws
 pub mod Ends
 pub mod EndsLaws

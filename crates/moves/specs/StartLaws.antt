@@ -21,7 +21,7 @@ use Rattle.moves.specs.Programs.{Start, slideStart}
 use Rattle.moves.specs.Moves.{startCall}
 use Rattle.calls.specs.YieldLaws.{NonRoot, non-root-yields}
 use Rattle.calls.specs.CallLaws.{call-given}
-use Rattle.moves.specs.StepLaws.{number-yields}
+use Rattle.calls.specs.StepLaws.{number-yields}
 
 -- the node is not the root, and the uniforms are uniforms
 pub record Begins (t : Tree) (s : Start) : Type 0 where

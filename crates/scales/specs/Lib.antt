@@ -3,4 +3,6 @@
 pub mod Scales
 pub mod Given
 pub mod FactorLaws
+pub mod Scalings
+pub mod ScalingLaws
 pub mod Rows

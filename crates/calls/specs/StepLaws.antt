@@ -9,9 +9,9 @@ use Rattle.random.specs.Lawful.{Yields}
 use Rattle.random.specs.UniformLaws.{UnitFraction}
 use Rattle.random.specs.DrawLaws.{return-yields, draws-yields, bind-yields, uniform-yields}
 use Rattle.rules.specs.Rules.{within}
 use Rattle.calls.specs.Call.{Reply, makes, outside, Outcome}
 use Rattle.calls.specs.Draws.{scaler, interpolated, drawnHeight}
-use Rattle.moves.specs.Explained.{Factor, Between}
+use Rattle.calls.specs.Chosen.{Factor, Between}
 
 -- a property of one of two, from what the test says of each
 pub cond-holds : {A : Type 0} (P : A → Type 0) (b : Bool) {x y : A} → (b ≡ true → P x) → (b ≡ false → P y) → P (cond b x y)
