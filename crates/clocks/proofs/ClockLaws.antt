@@ -31,7 +31,7 @@ use Rattle.clocks.specs.declared.RatesScaled.{RatesScaled}
 use Rattle.clocks.specs.Clocks.{clockLimits, positively, clockSigma, clockSigmaCall, branchRateOf, branchRate, branchRateCall}
 use Rattle.scales.specs.Given.{undrawnOf, turnedBack, settled}
 use Rattle.clocks.specs.Given.{ratesAfter}
-use Rattle.scales.specs.FactorLaws.{factored-got, factored-spent, uniform-left, settled-call, undrawn-call}
+use Rattle.scales.specs.SettledLaws.{factored-got, factored-spent, uniform-left, settled-call, undrawn-call}
 
 -- ---- a value that stays positive
 

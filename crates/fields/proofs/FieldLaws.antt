@@ -23,7 +23,7 @@ use Rattle.fields.specs.declared.Field.the-variants.{Birth, Death, Fossi
 use Rattle.scales.specs.declared.Scaled.{Scaled}
 use Rattle.fields.specs.Fields.{above, shifted, field, moveOf, valueOf, put, shiftOf, fbd, fbdLimits, fbdCall}
 use Rattle.scales.specs.Given.{turnedBack, settled}
-use Rattle.scales.specs.FactorLaws.{factored-got, factored-spent, uniform-left, settled-call}
+use Rattle.scales.specs.SettledLaws.{factored-got, factored-spent, uniform-left, settled-call}
 
 -- ---- above a shift
 

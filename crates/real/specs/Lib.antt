@@ -1,4 +1,5 @@
--- The definitions that the contracts of real cite, and the laws of the order of floats, of ages and of products.
+-- The definitions that the contracts of real cite, and the laws of the order of floats, of ages, of products, and of arithmetic, which keeps
+-- the order.
 pub mod Real
 pub mod Printed
 pub mod Ages
@@ -7,3 +8,4 @@ pub mod OrderLaws
 pub mod FieldLaws
 pub mod AgeLaws
 pub mod ProductLaws
+pub mod MonotoneLaws

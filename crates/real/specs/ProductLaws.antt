@@ -41,7 +41,7 @@ unfolding round units odd size span climb
 none-finite = tt
 
 -- where a / b is at most c / d, it is finite once rounded if c / d is
-smaller-finite : (s t : Bool) (a b c d : ℕ) → 0 < b → 0 < d → a * d ≤ c * b → T (finite (round binary64 t c d)) → T (finite (round binary64 s a b))
+pub smaller-finite : (s t : Bool) (a b c d : ℕ) → 0 < b → 0 < d → a * d ≤ c * b → T (finite (round binary64 t c d)) → T (finite (round binary64 s a b))
 smaller-finite s t a b c d B D h g =
     let l : T (le (round binary64 false 0 1) (round binary64 false a b)) = round-mono binary64 0 1 a b (omega arith) B (omega arith) in
     rw (round-sign binary64 s a b)

@@ -22,7 +22,7 @@ use Rattle.calls.specs.Draws.{scaler, tuned}
 use Rattle.scales.specs.declared.Scaled.{Scaled}
 use Rattle.scales.specs.Scales.{scale, scaleLimits, scaleCall}
 use Rattle.scales.specs.Given.{undrawnOf, turnedBack, settled}
-use Rattle.scales.specs.FactorLaws.{factored-got, factored-spent, uniform-left, settled-call}
+use Rattle.scales.specs.SettledLaws.{factored-got, factored-spent, uniform-left, settled-call}
 
 -- ---- the limits
 

@@ -23,7 +23,7 @@ use Rattle.scales.specs.declared.Scaled.{Scaled}
 use Rattle.scales.specs.declared.SpeciationScaled.{SpeciationScaled}
 use Rattle.scales.specs.Scales.{scale, scaleLimits, scaleCall, largest, clockRate, clockRateLimits, clockRateCall, speciationLimits, birthDifference, birthDifferenceCall, birthRate, birthRateCall, relativeDeath, relativeDeathCall}
 use Rattle.scales.specs.Given.{undrawnOf, speciationBack}
-use Rattle.scales.specs.FactorLaws.{undrawn-call}
+use Rattle.scales.specs.SettledLaws.{undrawn-call}
 
 -- ---- ClockRateScale
 

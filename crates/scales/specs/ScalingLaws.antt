@@ -1,14 +1,15 @@
 -- What a scale's answer comes from: drawing a factor ends as Scalings says (`factored-yields`), of a part too (`placed-yields`); so a call of `scale` that scaled has drawn a factor that its
 -- line admits (`scale-made`), and one that declined was given a zero or has drawn a factor that the line does not admit (`scale-unmade`). One draw is always enough
--- for `scale` (`scale-enough`). Assumes nothing.
-use mathlib.Core.Path.{_≡_, refl, sym, ap, _∙_}
+-- for `scale` (`scale-enough`), and its factor is finite and positive (`scale-positive`). Assumes nothing.
+use mathlib.Core.Path.{_≡_, refl, sym, ap, _∙_, subst}
 use mathlib.Core.Logic.{_⊎_, inl, inr}
 use mathlib.Core.Bool.{Bool, true, false, cond, _&&_, and-eq-true-iff}
 use Prim.Native.Nat.{ℕ, _<_}
 use native.Mathlib.Omega.{arith}
-use lib.IntN.{negsuc}
+use lib.IntN.{ℤ, negsuc}
 use lib.Dec.{leb}
 use lib.Ieee.{Float, binary64, eq, mul}
+use lib.Ieee.Scale.{finite}
 use borrow.Author.Tests.{leb-true}
 use Rattle.answer.specs.declared.Refusal.the-variants.{Allowance}
 use Rattle.answer.specs.declared.Ratio.{Ratio}
@@ -23,10 +24,13 @@ use Rattle.random.specs.Lawful.{Yields}
 use Rattle.random.specs.DrawLaws.{bind-got, return-yields, bind-yields}
 use Rattle.random.specs.SupplyLaws.{taken-one}
 use Rattle.real.specs.Real as Real
+use Rattle.real.specs.Real.{positive, notNegative}
 use Rattle.rules.specs.Rules.{within}
 use Rattle.calls.specs.Change.{Change, declined, scaled, inPlace, onPart, Proposed, proposed}
 use Rattle.calls.specs.ChangeLaws.{value-limits, value-declined, value-scaled, value-made, value-unmade}
 use Rattle.calls.specs.Chosen.{Factor}
+use Rattle.calls.specs.Draws.{tuned}
+use Rattle.calls.specs.FactorLaws.{chosen-positive}
 use Rattle.calls.specs.StepLaws.{cond-holds, factor-yields}
 use Rattle.scales.specs.Scales.{factored, scale, scaleLimits, scaleCall}
 use Rattle.scales.specs.Scalings.{Scales, Declines, Scaling, is-scaled, is-declined, Placed, is-placed, is-kept, PartScales}
@@ -144,3 +148,15 @@ module _ (value upper tuning : Float) (g : Random) (a : ℕ) where
           let d = drawn l in
           after f (d .0) (d .1) (d .2)
       go false f = let z = same (value-limits (scaleLimits value upper tuning) (scale value upper tuning) value g a f) in clash cc
+
+  -- the factor of the ratio is finite and positive, so that its logarithm can be taken
+  pub scale-positive : (draws : ℕ) (f : Float) (k : ℤ) → scaleCall value upper tuning g a .answer ≡ Proposals.Scaled draws (Power f k) → positive f ≡ true
+  unfolding scaleLimits
+  scale-positive draws f k q =
+      let c = value-made (scaleLimits value upper tuning) (scale value upper tuning) value g a draws (Power f k) q .fine in
+      let l = and-eq-true-iff (scaleLimits value upper tuning) (allowed a) .0 c .0 in
+      let t = and-eq-true-iff (tuned tuning) (notNegative upper) .0 (and-eq-true-iff (tuned tuning && notNegative upper) (finite value) .0 l .0) .0 in
+      let m = scale-made draws (Power f k) q in
+      let e = m .ratio in
+      let z : m .factor ≡ f = cc in
+      subst (λ (x : Float). positive x ≡ true) z (chosen-positive tuning (m .factor) t (m .drawn))
