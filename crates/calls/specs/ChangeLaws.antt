@@ -2,10 +2,10 @@
 -- `value-spent`, `value-declined`, `value-scaled`, `value-undrawn`, for the code of the calls) and from the call on a part (`value-part`); steps (`value-steps`,
 -- `value-within`); what is not changed (`value-refused`, `value-kept`); how the program's run ended
 -- (`value-made`, `value-unmade`); other allowances (`value-larger`, `value-enough`); and that nothing but 5
--- and 6 turns it back (`value-refusals`). Assumes nothing.
+-- and 6 turns it back (`value-ends`, `value-refusals`). Assumes nothing.
 use mathlib.Core.Path.{_≡_, refl, ap, _∙_}
 use mathlib.Core.Logic.{_⊎_, inl, inr}
-use mathlib.Core.Bool.{Bool, true, false, _&&_, cond}
+use mathlib.Core.Bool.{Bool, true, false, _&&_, cond, and-eq-true-iff}
 use Prim.Native.Nat.{ℕ, _-_, _≤_}
 use native.Mathlib.Omega.{arith}
 use Rattle.answer.specs.declared.Refusal.{Refusal}
@@ -23,7 +23,7 @@ use Rattle.tree.specs.declared.Verdict.the-variants as Verdicts
 use Rattle.calls.specs.Call.{Reply, makes, Ending, refused, given, ended, limited, past, runCall}
 use Rattle.calls.specs.Change.{Change, declined, scaled, inPlace, onPart, Proposed, proposed, keeps, replying, valueCall}
 use Rattle.calls.specs.RunLaws.{run-steps, run-within, run-larger, run-enough}
-use Rattle.calls.specs.CallLaws.{allows}
+use Rattle.calls.specs.CallLaws.{allows, allowed-top}
 
 clash : {X : Type 0} → _≡_ {A = ℕ} 0 1 → X
 clash e = absurd (omega arith)
@@ -206,14 +206,16 @@ module _ {P : Type 0} (limits : Bool) (program : Draw (Change P)) (v : P) (g : R
       rw y (ap (keeps v g) (run-larger (replying program) g (limited limits a) a b o (λ e. n (ap (λ (x : Ending (Change P)). keeps v g x .answer) e))))
 
   -- an allowance of as many draws as a call makes is enough: a 6 is answered only where more draws would be made
-  pub value-enough : (a b : ℕ) → 1 ≤ a → a ≤ b → b ≤ 65535 → ((why : Refusal) → valueCall limits program v g b .answer ≡ Proposals.Refused why → ⊥)
+  pub value-enough : (a b : ℕ) → 1 ≤ a → a ≤ b → ((why : Refusal) → valueCall limits program v g b .answer ≡ Proposals.Refused why → ⊥)
       → drawsIn (valueCall limits program v g b .answer) ≤ a → valueCall limits program v g a ≡ valueCall limits program v g b
   unfolding valueCall keeps
-  value-enough a b h k m = go (ending b) refl
+  value-enough a b h k = go (ending b) refl
     where
       again : (c : Change P) (d : ℕ) (i : Random) → d ≤ a → ending b ≡ given c d i → keeps v g (ending a) ≡ keeps v g (given c d i)
       again c d i q e =
-          let y = same-limits b a (allows b (omega arith) m) (allows a h (omega arith)) in
+          let l = and-eq-true-iff limits (allowed b) .0 (changed b c d i e .fine) .1 in
+          let m = allowed-top b l in
+          let y = same-limits b a l (allows a h (omega arith)) in
           let z : ending a ≡ given c d i = rw y (run-enough (replying program) g (limited limits b) a b c d i q k e) in
           ap (keeps v g) z
 
@@ -225,17 +227,24 @@ module _ {P : Type 0} (limits : Bool) (program : Draw (Change P)) (v : P) (g : R
 
   -- ---- what turns a call back
 
-  -- a parameter outside its limits, or more draws needed than allowed
-  pub value-refusals : (a : ℕ) (why : Refusal) → valueCall limits program v g a .answer ≡ Proposals.Refused why → (why ≡ Parameter 0) ⊎ (why ≡ Allowance a)
+  -- within the limits, more draws needed than allowed and nothing else
+  pub value-ends : (a : ℕ) → limits && allowed a ≡ true → (why : Refusal) → valueCall limits program v g a .answer ≡ Proposals.Refused why → why ≡ Allowance a
   unfolding valueCall keeps ended replied onward
-  value-refusals a why = go (limits && allowed a)
+  value-ends a h why q = drawn (run program (supplyOf g a)) (rw (h, replying-run program (supplyOf g a)) at q)
     where
-      drawn : (d : Drawn (Change P)) → keeps v g (ended a (replied d)) .answer ≡ Proposals.Refused why → (why ≡ Parameter 0) ⊎ (why ≡ Allowance a)
-      drawn spent e = inr cc
+      drawn : (d : Drawn (Change P)) → keeps v g (ended a (replied d)) .answer ≡ Proposals.Refused why → why ≡ Allowance a
+      drawn spent e = cc
       drawn (got declined u) e = clash cc
       drawn (got (scaled w r) u) e = clash cc
 
-      go : (b : Bool) → keeps v g (past (cond b Verdicts.Fine (Verdicts.Refused (Parameter 0))) (ended a (run (replying program) (supplyOf g a)))) .answer ≡ Proposals.Refused why
-          → (why ≡ Parameter 0) ⊎ (why ≡ Allowance a)
-      go true e = drawn (run program (supplyOf g a)) (rw (replying-run program (supplyOf g a)) at e)
-      go false e = inl cc
+  -- a parameter outside its limits, or more draws needed than allowed
+  pub value-refusals : (a : ℕ) (why : Refusal) → valueCall limits program v g a .answer ≡ Proposals.Refused why → (why ≡ Parameter 0) ⊎ (why ≡ Allowance a)
+  unfolding valueCall keeps
+  value-refusals a why q = go (limits && allowed a) refl
+    where
+      outside : limits && allowed a ≡ false → why ≡ Parameter 0
+      outside f = let e = rw f at q in cc
+
+      go : (b : Bool) → limits && allowed a ≡ b → (why ≡ Parameter 0) ⊎ (why ≡ Allowance a)
+      go true f = inr (value-ends a f why q)
+      go false f = inl (outside f)

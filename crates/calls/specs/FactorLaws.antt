@@ -1,7 +1,7 @@
 -- The factor of a scale, for a tuning from 1e-8 to 1 and a uniform: it is finite and positive (`factor-positive`, `chosen-positive`), and not below the tuning
 -- (`factor-range`). Each step is at most what the ends of the tuning and of the uniform make it. Assumes nothing.
 use mathlib.Core.Path.{_≡_}
-use mathlib.Core.Bool.{Bool, true}
+use mathlib.Core.Bool.{true}
 use Prim.Native.Nat.{_^_}
 use lib.Dec.{T}
 use lib.Ieee.{Float, binary64, fits, add, sub, mul, div, lt, le, ofBits}
@@ -9,6 +9,7 @@ use lib.Ieee.Bits.{is-true}
 use lib.Ieee.Fits.{and-i, and-l, and-r}
 use lib.Ieee.Positive.{num, den, own-value, between}
 use lib.Ieee.Scale.{finite}
+use denote.Floats.{passes}
 use Rattle.random.specs.UniformLaws.{UnitFraction, unit-lt-one}
 use Rattle.real.specs.Real.{zero, one, positive}
 use Rattle.real.specs.OrderLaws.{lt→le, le-trans, lt-le-trans}
@@ -46,9 +47,6 @@ factor-held : T (unsigned mostFactor)
 unfolding div sub mul add ofBits
 factor-held = tt
 
-holds : {b : Bool} → b ≡ true → T b
-holds h = rw h tt
-
 -- ---- the steps, for the tuning s and the uniform u
 
 module _ (s u : Float) (h : tuned s ≡ true) (f : UnitFraction u) where
@@ -62,10 +60,10 @@ module _ (s u : Float) (h : tuned s ≡ true) (f : UnitFraction u) where
   part = mul binary64 u length
 
   least : T (le leastTuning s)
-  least = and-l (le leastTuning s) (le s one) (holds h)
+  least = and-l (le leastTuning s) (le s one) (passes _ h)
 
   most : T (le s one)
-  most = and-r (le leastTuning s) (le s one) (holds h)
+  most = and-r (le leastTuning s) (le s one) (passes _ h)
 
   tuning-unsigned : T (unsigned s)
   unfolding ofBits
@@ -97,7 +95,7 @@ module _ (s u : Float) (h : tuned s ≡ true) (f : UnitFraction u) where
   part-at-most : AtMost part mostPart
   unfolding ofBits
   part-at-most =
-      mul-le u one length mostLength uniform-unsigned tt (length-at-most .held) length-held (lt→le u one (holds (unit-lt-one u f)))
+      mul-le u one length mostLength uniform-unsigned tt (length-at-most .held) length-held (lt→le u one (passes _ (unit-lt-one u f)))
       (length-at-most .most) part-held
 
   factor-at-most : AtMost (scaler s u) mostFactor

@@ -31,7 +31,7 @@ use Rattle.clocks.specs.declared.RatesScaled.{RatesScaled}
 use Rattle.clocks.specs.Clocks.{clockLimits, positively, clockSigma, clockSigmaCall, branchRateOf, branchRate, branchRateCall}
 use Rattle.scales.specs.Given.{undrawnOf, turnedBack, settled}
 use Rattle.clocks.specs.Given.{ratesAfter}
-use Rattle.scales.specs.SettledLaws.{factored-got, factored-spent, uniform-left, settled-call, undrawn-call}
+use Rattle.scales.specs.SettledLaws.{factored-got, factored-spent, uniform-left, call-left, settled-call, undrawn-call}
 
 -- ---- a value that stays positive
 
@@ -43,9 +43,6 @@ module _ (limits : Bool) (value tuning : Float) (g : Random) (allowance : ℕ) (
   module _ (ha : a ≡ true) (u : DrawnReal) (e : u ≡ drawnReal (supplyOf g allowance) (run uniform (supplyOf g allowance))) where
     holds : limits && allowed allowance ≡ true
     holds = rw (← ea, ha)
-
-    pub positive-left : u .ok ≡ true → u .supply .left ≤ allowance
-    positive-left k = uniform-left (supplyOf g allowance) u e k
 
     pub positive-spent : u .ok ≡ false → (r : Scaled) → r ≡ turnedBack (Allowance allowance) value g
         → proposed (r .proposal) (r .random) (r .value) ≡ valueCall limits (positively value tuning) value g allowance
@@ -60,7 +57,7 @@ module _ (limits : Bool) (value tuning : Float) (g : Random) (allowance : ℕ) (
         settled-call limits (positively value tuning) value g allowance holds b (mul binary64 value f) f (u .supply)
         (rw eb (factored-got tuning (mul binary64 value) positive (supplyOf g allowance) u e k f ef)) r er
 
-pub ruleset positiveLaws = (positive-limits, positive-left, positive-spent, positive-settled)
+pub ruleset positiveLaws = (positive-limits, call-left, positive-spent, positive-settled)
 
 -- ---- the limits
 

@@ -3,8 +3,8 @@ use mathlib.Core.Path.{_≡_, refl}
 use mathlib.Core.Bool.{Bool, true, false}
 use mathlib.Core.List.{List}
 use Prim.Native.Nat.{ℕ, _<_}
-use lib.Dec.{T}
 use lib.Ieee.{Float}
+use denote.Floats.{passes}
 use Rattle.random.specs.Draw.{below, run}
 use Rattle.random.specs.Lawful.{Yields}
 use Rattle.random.specs.DrawLaws.{return-yields, below-yields}
@@ -17,9 +17,6 @@ use Rattle.ages.specs.declared.TipAge.{TipAge}
 use Rattle.ages.specs.Ages.{ageOf}
 use Rattle.dating.specs.TipAge.{ageing, tipAge}
 use Rattle.dating.specs.AgeEnds.{AgeDrawn, AgeExplained, is-moved, is-declined, is-outside}
-
-holds : {b : Bool} → b ≡ true → T b
-holds e = rw e tt
 
 moved-root : (t : Tree) (k : ℕ) (x : Float) → tipMoved t k x .root ≡ t .root
 unfolding setHeight
@@ -51,7 +48,7 @@ age-explained minima maxima t =
     inside k h d x b w = is-moved (record {
       tip = k;
       height = x;
-      listed = record { tip = h; interval = holds w };
+      listed = record { tip = h; interval = passes _ w };
       drawn = b;
       free = d;
       tree = refl;

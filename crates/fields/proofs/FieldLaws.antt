@@ -2,7 +2,7 @@
 -- with another value (`putLaws`), and the call (`fbdLaws`). Assumes nothing.
 use mathlib.Core.Path.{_≡_, refl, sym, ap, _∙_}
 use mathlib.Core.Bool.{Bool, true, false, _&&_}
-use Prim.Native.Nat.{ℕ, _≤_}
+use Prim.Native.Nat.{ℕ}
 use lib.Ieee.{Float, binary64, lt, add, sub, mul}
 use lib.Ieee.Scale.{finite}
 use Rattle.answer.specs.declared.Refusal.the-variants.{Parameter, Allowance}
@@ -23,7 +23,7 @@ use Rattle.fields.specs.declared.Field.the-variants.{Birth, Death, Fossi
 use Rattle.scales.specs.declared.Scaled.{Scaled}
 use Rattle.fields.specs.Fields.{above, shifted, field, moveOf, valueOf, put, shiftOf, fbd, fbdLimits, fbdCall}
 use Rattle.scales.specs.Given.{turnedBack, settled}
-use Rattle.scales.specs.SettledLaws.{factored-got, factored-spent, uniform-left, settled-call}
+use Rattle.scales.specs.SettledLaws.{factored-got, factored-spent, call-left, settled-call}
 
 -- ---- above a shift
 
@@ -52,9 +52,6 @@ module _ (limits estimated : Bool) (value shift tuning : Float) (g : Random) (al
     field-undrawn h = value-undrawn limits (field estimated value shift tuning) value g allowance holds (rw h)
 
     module _ (h : estimated ≡ true) (u : DrawnReal) (e : u ≡ drawnReal (supplyOf g allowance) (run uniform (supplyOf g allowance))) where
-      pub field-left : u .ok ≡ true → u .supply .left ≤ allowance
-      field-left k = uniform-left (supplyOf g allowance) u e k
-
       pub field-spent : u .ok ≡ false → (r : Scaled) → r ≡ turnedBack (Allowance allowance) value g
           → proposed (r .proposal) (r .random) (r .value) ≡ valueCall limits (field estimated value shift tuning) value g allowance
       unfolding field shifted
@@ -70,7 +67,7 @@ module _ (limits estimated : Bool) (value shift tuning : Float) (g : Random) (al
           settled-call limits (field estimated value shift tuning) value g allowance holds b (add binary64 shift (mul binary64 (sub binary64 value shift) f)) f (u .supply)
           (rw (h, eb) (factored-got tuning (λ f. add binary64 shift (mul binary64 (sub binary64 value shift) f)) (above shift) (supplyOf g allowance) u e k f ef)) r er
 
-pub ruleset fieldLaws = (field-limits, field-undrawn, field-left, field-spent, field-settled)
+pub ruleset fieldLaws = (field-limits, field-undrawn, call-left, field-spent, field-settled)
 
 -- ---- the limits
 

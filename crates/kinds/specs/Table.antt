@@ -1,7 +1,7 @@
 -- rove's 25 moves: the tuning that each starts with, and whether it changes the process, the tree and the tree's shape. Written from `initial_tuning`,
 -- `changes_fbd`, `changes_tree` and `changes_topology` of mcmc/moves.rs, which document 01 ports as they are. Definitions only. Assumes nothing.
 use mathlib.Core.Bool.{Bool, true, false}
-use lib.Ieee.{Float, binary64, ofBits}
+use lib.Ieee.{binary64, ofBits}
 use Rattle.real.specs.declared.Optional.{Optional}
 use Rattle.real.specs.declared.Optional.the-variants.{Missing, Given}
 use Rattle.kinds.specs.declared.Move.{Move}

@@ -9,6 +9,7 @@ use lib.Dec.{T, eqb, ltb}
 use lib.ListN.{length}
 use lib.Ieee.{Float}
 use lib.Ieee.Scale.{finite}
+use denote.Floats.{passes}
 use borrow.Author.Tests.{ltb-true, ltb-false}
 use Rattle.answer.specs.declared.Ratio.the-variants.{Even}
 use Rattle.random.specs.Draw.{until, below, coin, run}
@@ -30,9 +31,6 @@ use Rattle.calls.specs.YieldLaws.{NonRoot, Internal, non-root-yields, internal-
 use Rattle.moves.specs.Explained.{HeightNode, WilsonNodes, Explained, is-moved, is-declined, is-infinite, is-outside}
 use Rattle.calls.specs.Chosen.{Factor}
 use Rattle.calls.specs.StepLaws.{cond-holds, cond-yields, number-yields, factor-yields, height-yields}
-
-holds : {b : Bool} → b ≡ true → T b
-holds e = rw e tt
 
 not-true : (b : Bool) → not b ≡ true → b ≡ false
 not-true false e = refl
@@ -61,13 +59,13 @@ module _ (t : Tree) (v : Valid (nodesOf (t .pairs)) t) where
       Q = Explained nodeHeight t
 
       found : (k : ℕ) → not (eqb k (t .root)) ≡ true → Internal n k → HeightNode n t k
-      found k e i = record { node = i .node; internal = i .inner; under = neqb→ne k (t .root) (holds e) }
+      found k e i = record { node = i .node; internal = i .inner; under = neqb→ne k (t .root) (passes _ e) }
 
       inside : Rules.nodeHeightDeclines n ≡ false → (k : ℕ) → HeightNode n t k → (x : Float) → within (floor t k) x (height t (parent t k)) ≡ true
           → Q (makes (moved (Rules.heightMoved t k x) Even))
       inside e k h x w = is-moved (record {
         choice = record { node = k; height = x };
-        makes = record { listed = record { node = h .node; internal = h .internal; under = h .under; interval = holds w }; free = e; tree = refl; ratio = refl };
+        makes = record { listed = record { node = h .node; internal = h .internal; under = h .under; interval = passes _ w }; free = e; tree = refl; ratio = refl };
       })
 
   -- ---- SubtreeSlide
@@ -100,8 +98,8 @@ module _ (t : Tree) (v : Valid (nodesOf (t .pairs)) t) where
         makes = record {
           listed = record {
             node = ltb-true i n (inside .0);
-            under = neqb→ne i (t .root) (holds (inside .1));
-            number = holds f;
+            under = neqb→ne i (t .root) (passes _ (inside .1));
+            number = passes _ f;
             picked = p;
           };
           free = d;
@@ -130,7 +128,7 @@ module _ (t : Tree) (v : Valid (nodesOf (t .pairs)) t) where
       Q = Explained narrowExchange t
 
       found : (g : ℕ) → Rules.grand n t g ≡ true → Internal n g → Rules.NarrowListed n t g
-      found g e i = record { node = i .node; grandparent = holds e }
+      found g e i = record { node = i .node; grandparent = passes _ e }
 
   -- ---- WideExchange
 
@@ -146,7 +144,7 @@ module _ (t : Tree) (v : Valid (nodesOf (t .pairs)) t) where
       Q = Explained wideExchange t
 
       found : (i : ℕ) → NonRoot n (t .root) i → (j : ℕ) → not (eqb j i) ≡ true → NonRoot n (t .root) j → Rules.WideListed n t i j
-      found i p j e q = record { node-i = p .node; node-j = q .node; under-i = p .under; under-j = q .under; apart = λ z. neqb→ne j i (holds e) (sym z) }
+      found i p j e q = record { node-i = p .node; node-j = q .node; under-i = p .under; under-j = q .under; apart = λ z. neqb→ne j i (passes _ e) (sym z) }
 
       ends : (i j : ℕ) → Rules.WideListed n t i j → Q (makes (cond (Rules.wideDeclines t i j) declined (moved (Rules.widened n t i j) Even)))
       ends i j l =
@@ -179,8 +177,8 @@ module _ (t : Tree) (v : Valid (nodesOf (t .pairs)) t) where
         node-i = p .node;
         node-j = q;
         under-i = p .under;
-        apart = neqb→ne j i (holds (b .0));
-        host = holds (b .1);
+        apart = neqb→ne j i (passes _ (b .0));
+        host = passes _ (b .1);
       }
 
       listed : (i j : ℕ) (x : Float) → WilsonNodes n t i j → within (maxOf (height t i) (height t j)) x (height t (parent t j)) ≡ true → Rules.WilsonListed n t i j x
@@ -190,7 +188,7 @@ module _ (t : Tree) (v : Valid (nodesOf (t .pairs)) t) where
         under-i = h .under-i;
         apart = h .apart;
         host = h .host;
-        interval = λ d. holds w;
+        interval = λ d. passes _ w;
       }
 
   -- ---- RootScale

@@ -2,7 +2,7 @@
 -- Assumes nothing.
 use mathlib.Core.Path.{_≡_}
 use mathlib.Core.Bool.{Bool, true, false, _&&_}
-use Prim.Native.Nat.{ℕ, _-_, _≤_}
+use Prim.Native.Nat.{ℕ, _-_}
 use lib.IntN.{negsuc}
 use lib.Ieee.{Float, binary64, eq, mul}
 use lib.Ieee.Scale.{finite}
@@ -22,7 +22,7 @@ use Rattle.calls.specs.Draws.{scaler, tuned}
 use Rattle.scales.specs.declared.Scaled.{Scaled}
 use Rattle.scales.specs.Scales.{scale, scaleLimits, scaleCall}
 use Rattle.scales.specs.Given.{undrawnOf, turnedBack, settled}
-use Rattle.scales.specs.SettledLaws.{factored-got, factored-spent, uniform-left, settled-call}
+use Rattle.scales.specs.SettledLaws.{factored-got, factored-spent, call-left, settled-call}
 
 -- ---- the limits
 
@@ -73,9 +73,6 @@ module _ (value upper tuning : Float) (g : Random) (allowance : ℕ) (a : Bool) 
     scale-zero h = value-undrawn (scaleLimits value upper tuning) (scale value upper tuning) value g allowance holds (rw h)
 
     module _ (h : eq value Real.zero ≡ false) (u : DrawnReal) (e : u ≡ drawnReal (supplyOf g allowance) (run uniform (supplyOf g allowance))) where
-      pub scale-left : u .ok ≡ true → u .supply .left ≤ allowance
-      scale-left k = uniform-left (supplyOf g allowance) u e k
-
       pub scale-spent : u .ok ≡ false → (r : Scaled) → r ≡ turnedBack (Allowance allowance) value g
           → proposed (r .proposal) (r .random) (r .value) ≡ scaleCall value upper tuning g allowance
       unfolding scale
@@ -91,7 +88,7 @@ module _ (value upper tuning : Float) (g : Random) (allowance : ℕ) (a : Bool) 
           settled-call (scaleLimits value upper tuning) (scale value upper tuning) value g allowance holds b (mul binary64 value f) f (u .supply)
           (rw (h, eb) (factored-got tuning (mul binary64 value) (λ x. within Real.zero x upper) (supplyOf g allowance) u e k f ef)) r er
 
-pub ruleset scaleLaws = (scale-limits, scale-zero, scale-left, scale-spent, scale-settled)
+pub ruleset scaleLaws = (scale-limits, scale-zero, call-left, scale-spent, scale-settled)
 
 -- ---- limits of other calls, and answers without a draw
 

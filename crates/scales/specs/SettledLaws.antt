@@ -1,4 +1,4 @@
--- How a factor is drawn (`uniform-left`, `factored-got`, `factored-spent`), and that what is settled after it is the call (`settled-call`), for the code of
+-- How a factor is drawn (`uniform-left`, `call-left`, `factored-got`, `factored-spent`), and that what is settled after it is the call (`settled-call`), for the code of
 -- all scales; what a call leaves that declines without a draw (`undrawn-call`). Assumes nothing.
 use mathlib.Core.Path.{_≡_}
 use mathlib.Core.Bool.{Bool, true, false, _&&_, cond}
@@ -25,6 +25,10 @@ use Rattle.scales.specs.Given.{undrawnOf, settled}
 -- no more draws are left after a uniform than before
 pub uniform-left : (s : Supply) (u : DrawnReal) → u ≡ drawnReal s (run uniform s) → u .ok ≡ true → u .supply .left ≤ s .left
 uniform-left s u e h = run-lawful uniform .steps s (u .value) (u .supply) (real-got s u (run uniform s) e h) .fewer
+
+-- of a call, no more than were allowed
+pub call-left : (g : Random) (allowance : ℕ) (u : DrawnReal) → u ≡ drawnReal (supplyOf g allowance) (run uniform (supplyOf g allowance)) → u .ok ≡ true → u .supply .left ≤ allowance
+call-left g allowance u e h = uniform-left (supplyOf g allowance) u e h
 
 module _ (tuning : Float) (make : Float → Float) (admits : Float → Bool) (s : Supply) (u : DrawnReal) (e : u ≡ drawnReal s (run uniform s)) where
   -- what is drawn with the factor f
