@@ -13,14 +13,13 @@ use Rattle.answer.specs.declared.Refusal.the-variants.{Size, Parameter}
 use Rattle.tree.specs.declared.Verdict.{Verdict}
 use Rattle.tree.specs.declared.Verdict.the-variants as Verdicts
 use Rattle.tree.specs.Tree.{Tree, nodesOf, tipsOf}
-use Rattle.tree.specs.New.{validated}
+use Rattle.tree.specs.New.{counts, validated}
 use Rattle.tree.specs.Given.{treeOf}
 use Rattle.tree.specs.Bounded.{some}
 use Rattle.tree.specs.BoundedLaws.{some-at, some-none}
 use Rattle.process.specs.declared.FossilizedBirthDeath.{FossilizedBirthDeath}
 use Rattle.process.specs.Process.{processFinite}
-use Rattle.ages.specs.Ages.{counts, atFault, Judged, in-order, some-tip, Undecided, tableCall}
-use Rattle.ages.specs.Given.{tableThen, tableChecked}
+use Rattle.ages.specs.Ages.{atFault, Judged, in-order, some-tip, Undecided, tableCall, tableThen, tableChecked}
 
 -- ---- the lengths
 

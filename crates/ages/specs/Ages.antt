@@ -3,8 +3,8 @@
 use mathlib.Core.Path.{_≡_}
 use mathlib.Core.Bool.{Bool, true, false, not, _&&_, _||_, cond}
 use mathlib.Core.List.{List}
-use Prim.Native.Nat.{ℕ, _%_, _<_}
-use lib.Dec.{leb, eqb}
+use Prim.Native.Nat.{ℕ, _<_}
+use lib.Dec.{eqb}
 use lib.ListN.{length, getD}
 use lib.Ieee.{Float, nan, lt, le, eq}
 use lib.Ieee.Scale.{finite}
@@ -12,7 +12,8 @@ use Rattle.answer.specs.declared.Refusal.the-variants.{Size, Parameter}
 use Rattle.real.specs.Real as Real
 use Rattle.tree.specs.declared.Verdict.{Verdict}
 use Rattle.tree.specs.declared.Verdict.the-variants as Verdicts
-use Rattle.tree.specs.Tree.{tipsOf}
+use Rattle.tree.specs.Tree.{Tree, nodesOf, tipsOf}
+use Rattle.tree.specs.New.{counts, validated}
 use Rattle.calls.specs.Call.{andThen}
 use Rattle.process.specs.declared.FossilizedBirthDeath.{FossilizedBirthDeath}
 use Rattle.process.specs.Process.{processFinite}
@@ -24,11 +25,7 @@ use Rattle.ages.specs.declared.TipAge.{TipAge}
 abbrev pub ageOf : List Float → List Float → ℕ → TipAge
 ageOf minima maxima k = record { minimum = getD minima k nan; maximum = getD maxima k nan }
 
--- refusal 1: not "under 3, even, over 4,095"
-abbrev pub counts : ℕ → Bool
-counts n = leb 3 n && leb n 4095 && eqb (n % 2) 1
-
--- "lengths disagree" where n nodes have not one age for each tip
+-- refusal 1: "lengths disagree" where n nodes have not one age for each tip
 abbrev pub tableSized : ℕ → List Float → List Float → Verdict
 tableSized n minima maxima = cond (eqb (length minima) (tipsOf n) && eqb (length maxima) (tipsOf n)) Verdicts.Fine (Verdicts.Refused (Size n))
 
@@ -65,7 +62,14 @@ pub record Undecided {A : Type 0} (fault : ℕ → Bool) (tips : ℕ) (call : Ve
 abbrev pub orParameter : Bool → Verdict
 orParameter limits = cond limits Verdicts.Fine (Verdicts.Refused (Parameter 0))
 
+abbrev pub tableThen : Bool → Verdict → Verdict
+tableThen limits table = andThen table (orParameter limits)
+
+-- of a call on the tree t; table is what was judged of the table, limits whether the other parameters are within theirs
+abbrev pub tableChecked : List Float → List Float → Tree → Bool → Verdict → Verdict
+tableChecked minima maxima t limits table = andThen (tableSized (nodesOf (t .pairs)) minima maxima) (andThen (validated t) (tableThen limits table))
+
 -- the table by itself, for n nodes: their number, its lengths, its tips, the fields of the process
 unfoldable pub tableCall : ℕ → List Float → List Float → FossilizedBirthDeath → Verdict → Verdict
 tableCall n minima maxima p table =
-    andThen (cond (counts n) Verdicts.Fine (Verdicts.Refused (Size n))) (andThen (tableSized n minima maxima) (andThen table (orParameter (processFinite p))))
+    andThen (cond (counts n) Verdicts.Fine (Verdicts.Refused (Size n))) (andThen (tableSized n minima maxima) (tableThen (processFinite p) table))

@@ -1,22 +1,19 @@
--- What a call on a tree with a table has from its checks: where they are fine, each is (`passed`); what they refuse is refused, whatever would be
--- checked later (`refused-later`). Assumes nothing.
+-- What a call on a tree with a table has from its checks: where they are fine, each is (`passed`). Assumes nothing.
 use mathlib.Core.Path.{_≡_, refl}
 use mathlib.Core.Bool.{Bool}
 use mathlib.Core.List.{List}
 use Prim.Native.Nat.{ℕ}
 use native.Mathlib.Omega.{arith}
 use lib.Ieee.{Float}
-use Rattle.answer.specs.declared.Refusal.{Refusal}
 use Rattle.tree.specs.declared.Verdict.{Verdict}
 use Rattle.tree.specs.declared.Verdict.the-variants as Verdicts
 use Rattle.tree.specs.Tree.{Tree, nodesOf}
 use Rattle.tree.specs.New.{validated}
 use Rattle.calls.specs.Call.{andThen}
-use Rattle.ages.specs.Ages.{tableSized, orParameter}
-use Rattle.ages.specs.Given.{tableChecked}
+use Rattle.ages.specs.Ages.{tableSized, orParameter, tableChecked}
 
 -- where two checks are fine, each is
-both-fine : (a b : Verdict) → andThen a b ≡ Verdicts.Fine → (a ≡ Verdicts.Fine) × (b ≡ Verdicts.Fine)
+pub both-fine : (a b : Verdict) → andThen a b ≡ Verdicts.Fine → (a ≡ Verdicts.Fine) × (b ≡ Verdicts.Fine)
 both-fine Verdicts.Fine b e = (refl, e)
 both-fine (Verdicts.Refused why) b e = let z : _≡_ {A = ℕ} 0 1 = cc in absurd (omega arith)
 
@@ -34,14 +31,3 @@ passed minima maxima t limits v e =
     let b = both-fine (validated t) _ (a .1) in
     let c = both-fine v (orParameter limits) (b .1) in
     record { sized = a .0; tree = b .0; table = c .0; within = c .1 }
-
--- what such checks refuse is refused, whatever would be checked later
-pub refused-later : (a b c d e : Verdict) (why : Refusal) → andThen a (andThen b (andThen c d)) ≡ Verdicts.Refused why
-    → andThen a (andThen b (andThen (andThen c d) e)) ≡ Verdicts.Refused why
-refused-later (Verdicts.Refused w) b c d e why h = h
-refused-later Verdicts.Fine (Verdicts.Refused w) c d e why h = h
-refused-later Verdicts.Fine Verdicts.Fine c d e why h = go (andThen c d) h
-  where
-    go : (x : Verdict) → x ≡ Verdicts.Refused why → andThen x e ≡ Verdicts.Refused why
-    go (Verdicts.Refused w) h = h
-    go Verdicts.Fine h = let z : _≡_ {A = ℕ} 0 1 = cc in absurd (omega arith)

@@ -1,4 +1,3 @@
--- Ages is the age table and which tips of it are at fault, Given has the forms of the code; CheckedLaws are for the calls on a tree with a table.
+-- Ages is the age table, which tips of it are at fault, and the checks of a call with one; CheckedLaws are for the calls on a tree with a table.
 pub mod Ages
-pub mod Given
 pub mod CheckedLaws

@@ -13,17 +13,15 @@ use Rattle.real.specs.Real as Real
 use Rattle.tree.specs.declared.Verdict.{Verdict}
 use Rattle.tree.specs.declared.Verdict.the-variants as Verdicts
 use Rattle.tree.specs.Tree.{Tree, nodesOf, tipsOf, height}
-use Rattle.tree.specs.New.{validated}
 use Rattle.tree.specs.Given.{treeOf, kinIn}
 use Rattle.accepted.specs.ValidatedLaws.{fine-valid}
 use Rattle.calls.specs.Draws.{least}
 use Rattle.process.specs.declared.FossilizedBirthDeath.{FossilizedBirthDeath}
 use Rattle.process.specs.Process.{processFinite}
-use Rattle.ages.specs.Ages.{tableSized, atFault, Undecided, orParameter}
+use Rattle.ages.specs.Ages.{atFault, Undecided, tableChecked}
 use Rattle.dating.specs.Initialize.{oldest, stretch, startOf, overflowsAt, initialTo, startFits, allFinite, Initialized, initialized, initializeCall}
-use Rattle.ages.specs.Given.{tableChecked}
 use Rattle.dating.specs.Given.{startWith, startIn, startCall}
-use Rattle.ages.specs.CheckedLaws.{refused-later, passed}
+use Rattle.ages.specs.CheckedLaws.{passed}
 use Rattle.dating.proofs.InitializeLaws.{initial-whole}
 
 -- ---- the limits
@@ -86,10 +84,7 @@ module _ (p : FossilizedBirthDeath) (minima maxima : List Float) (pairs parents 
 
   pub initialize-refused : (why : Refusal) → r ≡ Verdicts.Refused why → Gives (initialized (Verdicts.Refused why) hs)
   unfolding initializeCall
-  initialize-refused why y =
-      let later = allFinite (startOf minima maxima (p .origin) t) t in
-      let e = refused-later (tableSized (nodesOf pairs) minima maxima) (validated t) (u .verdict) (orParameter limits) later why (sym (u .is) ∙ y) in
-      record { verdict = u .verdict; judged = u .judged; is = rw (← fits, e) }
+  initialize-refused why y = record { verdict = u .verdict; judged = u .judged; is = rw (← fits, ← u .is, y) }
 
   pub initialize-done : r ≡ Verdicts.Fine → (w : Verdict) (new : List Float)
       → initialized w new ≡ startCall (startIn (length hs) minima maxima (p .origin) (getD hs root nan)) (kinIn [] hs) → Gives (initialized w new)
@@ -98,6 +93,6 @@ module _ (p : FossilizedBirthDeath) (minima maxima : List Float) (pairs parents 
       let c = passed minima maxima t limits (u .verdict) (sym (u .is) ∙ y) in
       let long : length hs ≡ nodesOf pairs = fine-valid t (c .tree) .sized .heights in
       let whole = initial-whole (startOf minima maxima (p .origin) t) t (nodesOf pairs) in
-      record { verdict = u .verdict; judged = u .judged; is = rw (← fits, c .sized, c .tree, c .table, c .within, whole, ← long) e }
+      record { verdict = u .verdict; judged = u .judged; is = rw (← fits, ← u .is, y, whole, ← long) e }
 
 pub ruleset initializeLaws = (initialize-refused, initialize-done)

@@ -38,9 +38,8 @@ use Rattle.calls.specs.HeightLaws.{height-spent, height-inside, height-outside}
 use Rattle.process.specs.declared.FossilizedBirthDeath.{FossilizedBirthDeath}
 use Rattle.process.specs.Process.{processFinite}
 use Rattle.ages.specs.declared.TipAge.{TipAge}
-use Rattle.ages.specs.Ages.{ageOf, atFault, Undecided}
+use Rattle.ages.specs.Ages.{ageOf, atFault, Undecided, tableChecked}
 use Rattle.dating.specs.TipAge.{ageing, tipAge, agesChecked, tipAgeCall}
-use Rattle.ages.specs.Given.{tableChecked}
 use Rattle.dating.specs.Given.{leftTo}
 use Rattle.ages.specs.CheckedLaws.{passed}
 

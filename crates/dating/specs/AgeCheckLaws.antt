@@ -22,6 +22,7 @@ use Rattle.calls.specs.Call.{andThen, limited}
 use Rattle.calls.specs.CallLaws.{allows, allowed-top, then-few, limited-few}
 use Rattle.process.specs.declared.FossilizedBirthDeath.{FossilizedBirthDeath}
 use Rattle.process.specs.Process.{processFinite}
+use Rattle.ages.specs.CheckedLaws.{passed}
 use Rattle.ages.specs.Ages.{atFault, tableSized, Judged, in-order, some-tip}
 use Rattle.dating.specs.TipAge.{agesChecked}
 
@@ -34,10 +35,6 @@ clash z = absurd (omega arith)
 judged-fine : (fault : ℕ → Bool) (tips : ℕ) (v : Verdict) → Judged fault tips v → ((k : ℕ) → k < tips → fault k ≡ false) → v ≡ Verdicts.Fine
 judged-fine fault tips v (in-order f) h = refl
 judged-fine fault tips v (some-tip k l e) h = let q = h k l in clash cc
-
-then-fine : (v w : Verdict) → andThen v w ≡ Verdicts.Fine → w ≡ Verdicts.Fine
-then-fine Verdicts.Fine w e = e
-then-fine (Verdicts.Refused why) w e = clash cc
 
 limits-fine : (b c : Bool) → cond (b && c) Verdicts.Fine (Verdicts.Refused (Parameter 0)) ≡ Verdicts.Fine → c ≡ true
 limits-fine true true e = refl
@@ -87,9 +84,7 @@ module _ (minima maxima : List Float) (p : FossilizedBirthDeath) (t : Tree) (tab
       within : agesChecked minima maxima p t b table ≡ Verdicts.Fine → allowed b ≡ true
       within y =
           limits-fine (processFinite p) (allowed b)
-          (then-fine table (limited (processFinite p) b)
-          (then-fine (validated t) (andThen table (limited (processFinite p) b))
-          (then-fine (tableSized (nodesOf (t .pairs)) minima maxima) (andThen (validated t) (andThen table (limited (processFinite p) b))) (unfold agesChecked in y))))
+          (passed minima maxima t (processFinite p && allowed b) table (unfold agesChecked in y) .within)
 
   -- ---- refusals
 

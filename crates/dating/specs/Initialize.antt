@@ -13,13 +13,12 @@ use Rattle.real.specs.Real.{maxOf}
 use Rattle.tree.specs.declared.Verdict.{Verdict}
 use Rattle.tree.specs.declared.Verdict.the-variants as Verdicts
 use Rattle.tree.specs.Tree.{Tree, nodesOf, tipsOf, inner, height}
-use Rattle.tree.specs.New.{validated}
 use Rattle.calls.specs.Call.{andThen}
 use Rattle.calls.specs.Draws.{least}
 use Rattle.process.specs.declared.FossilizedBirthDeath.{FossilizedBirthDeath}
 use Rattle.process.specs.Process.{processFinite}
 use Rattle.ages.specs.declared.TipAge.{TipAge}
-use Rattle.ages.specs.Ages.{ageOf, tableSized, orParameter}
+use Rattle.ages.specs.Ages.{ageOf, tableChecked}
 
 -- 2.0 and 0.8
 abbrev two : Float
@@ -100,5 +99,4 @@ unfoldable pub initializeCall : List Float → List Float → FossilizedBirthDea
 initializeCall minima maxima p t table =
     let n = nodesOf (t .pairs) in
     let s = startOf minima maxima (p .origin) t in
-    let limits = andThen table (orParameter (startFits minima maxima p t)) in
-    orKept (andThen (tableSized n minima maxima) (andThen (validated t) (andThen limits (allFinite s t)))) (t .heights) (initialTo s t n)
+    orKept (andThen (tableChecked minima maxima t (startFits minima maxima p t) table) (allFinite s t)) (t .heights) (initialTo s t n)

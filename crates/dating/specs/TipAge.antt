@@ -1,20 +1,19 @@
 -- What TipAge draws, in the order of `Dating::propose_age`, and its call. Definitions only. Assumes nothing.
-use mathlib.Core.Bool.{cond}
+use mathlib.Core.Bool.{cond, _&&_}
 use mathlib.Core.List.{List}
 use Prim.Native.Nat.{ℕ}
 use lib.Ieee.{Float}
 use Rattle.random.specs.declared.Random.{Random}
-use Rattle.random.specs.Draw.{below, Draw, return, draw, _>>=_}
+use Rattle.random.specs.Draw.{allowed, below, Draw, return, draw, _>>=_}
 use Rattle.tree.specs.declared.Verdict.{Verdict}
 use Rattle.tree.specs.Tree.{Tree, nodesOf, tipsOf}
-use Rattle.tree.specs.New.{validated}
 use Rattle.rules.specs.Rules.{ceiling, tipAgeDeclines, tipMoved, tipAgeRatio}
-use Rattle.calls.specs.Call.{Reply, makes, Outcome, declined, moved, andThen, limited, runCall, Called, leaves}
+use Rattle.calls.specs.Call.{Reply, makes, Outcome, declined, moved, runCall, Called, leaves}
 use Rattle.calls.specs.Draws.{drawnHeight}
 use Rattle.process.specs.declared.FossilizedBirthDeath.{FossilizedBirthDeath}
 use Rattle.process.specs.Process.{processFinite}
 use Rattle.ages.specs.declared.TipAge.{TipAge}
-use Rattle.ages.specs.Ages.{ageOf, tableSized}
+use Rattle.ages.specs.Ages.{ageOf, tableChecked}
 
 -- "a height from its least age to the lower of greatest age and parent's. Declined if that has no length."
 unfoldable pub ageing : Tree → ℕ → TipAge → Draw (Reply Outcome)
@@ -30,8 +29,7 @@ tipAge minima maxima t = do
 
 -- the checks of the call, in the order of the refusals; table is what was judged of the table
 unfoldable pub agesChecked : List Float → List Float → FossilizedBirthDeath → Tree → ℕ → Verdict → Verdict
-agesChecked minima maxima p t allowance table =
-    andThen (tableSized (nodesOf (t .pairs)) minima maxima) (andThen (validated t) (andThen table (limited (processFinite p) allowance)))
+agesChecked minima maxima p t allowance table = tableChecked minima maxima t (processFinite p && allowed allowance) table
 
 unfoldable pub tipAgeCall : List Float → List Float → FossilizedBirthDeath → Tree → Random → ℕ → Verdict → Called
 tipAgeCall minima maxima p t g allowance table =

@@ -20,8 +20,11 @@ use Rattle.tree.specs.Tree.{Tree, noNode, nodesOf, inner, firstIn, secon
 -- ---- the sizes
 
 -- refusal 1: "under 3, even, over 4,095, or lengths disagree"
+abbrev pub counts : ℕ → Bool
+counts n = leb 3 n && leb n 4095 && eqb (n % 2) 1
+
 abbrev pub sizeFits : ℕ → List ℕ → List Float → Bool
-sizeFits n pairs heights = leb 3 n && leb n 4095 && eqb (n % 2) 1 && eqb (length pairs) (n + n) && eqb (length heights) n
+sizeFits n pairs heights = counts n && eqb (length pairs) (n + n) && eqb (length heights) n
 
 -- ---- the parents, from the pairs
 
