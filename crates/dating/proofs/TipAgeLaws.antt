@@ -68,9 +68,10 @@ module _ (pairs parents : List ℕ) (hs : List Float) (root k : ℕ) (a : TipAge
   unfolding parent height
   greatest = rw (el, eh, ep)
 
-  pub age-declined : le (l .maximum) (l .minimum) ≡ true → afterOn Turns.Declined between here ≡ turnOf here s (run (ageing here k a) between)
+  pub age-declined : le (l .maximum) (l .minimum) ≡ true → (r : Turn) → r ≡ record { turned = Turns.Declined; supply = between }
+      → after r pairs parents hs ≡ turnOf here s (run (ageing here k a) between)
   unfolding ageing turnOf run tipAgeDeclines
-  age-declined h = rw (← greatest, ← least, h)
+  age-declined h r er = rw (er, ← greatest, ← least, h)
 
   -- u is the uniform
   module _ (h : le (l .maximum) (l .minimum) ≡ false) (u : DrawnReal) (e : u ≡ drawnReal between (run uniform between)) where

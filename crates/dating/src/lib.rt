@@ -9,6 +9,7 @@ ghost use Rattle.random.specs.Draw.{run, allowed};
 ghost use Rattle.tree.specs.Tree.{nodesOf, tipsOf};
 ghost use Rattle.tree.specs.Valid.{Valid};
 ghost use Rattle.tree.specs.Given.{treeOf, kinIn};
+ghost use Rattle.calls.specs.declared.Turned.the-variants as Turns;
 ghost use Rattle.calls.specs.Call.{called};
 ghost use Rattle.calls.specs.Draws.{least};
 ghost use Rattle.calls.specs.Given.{after, turnOf};
@@ -179,6 +180,15 @@ fn interval(age: TipAge, above: f64) -> TipAge
     }
 }
 
+fn declined(supply: Supply) -> Turn
+    ensures { λ r. ⌜ r ≡ record { turned = Turns.Declined; supply = supply } ⌝ }
+{
+    Turn {
+        turned: Turned::Declined,
+        supply,
+    }
+}
+
 // A tip of these ages takes a height from its least age to the lower of its greatest and its parent's, drawn from the supply `between`; s is
 // the turn's.
 fn age_tip(
@@ -195,10 +205,7 @@ fn age_tip(
 {
     let left = interval(age, reads::height(heights, reads::parent(parents, tip)));
     if left.maximum <= left.minimum {
-        return Turn {
-            turned: Turned::Declined,
-            supply: between,
-        };
+        return declined(between);
     }
     let u = between.uniform();
     let last = u.supply;

@@ -13,6 +13,9 @@ height-requires c κs = search (ageTipLaws, needs)
 interval-requires : tie.Need-interval-requires
 interval-requires c κs = search (ageTipLaws, needs)
 
+declined-requires : tie.Need-declined-requires
+declined-requires c κs = search (ageTipLaws, needs)
+
 same-length : tie.Need-same-length
 same-length c = search (ageTipLaws, needs)
 
@@ -59,6 +62,7 @@ age-tip-spec =
     parent-requires
     height-requires
     interval-requires
+    declined-requires
     same-length
     returns
     uniform-requires
