@@ -1,21 +1,39 @@
 // Runs the calls of the seven tree moves on tree F, on small trees and on the smallest and the largest that are accepted: moved, declined and
 // refused for each reason that can be met. A line has the call and the answer, then the tree and the generator's words after the call; floats are
 // given by their bits. "Document 01" is the client's scope paper. Assumes nothing.
-use answer::Answer;
-use answer::Ratio;
 use calls::Answered;
 use calls::Height;
-use libc::STDOUT_FILENO;
+use lines::answer;
+use lines::bits;
+use lines::draws;
+use lines::floats;
 use lines::marks;
 use lines::number;
 use lines::refused;
+use lines::state;
 use lines::text;
 use random::Random;
+use samples::FULL;
+use samples::NONE;
+use samples::START;
+use samples::THEN_ZERO;
+use samples::UPPER;
+use samples::ZERO;
+use samples::ZEROS;
+use samples::generator;
+use samples::infinity;
+use samples::largest;
+use samples::most_heights;
+use samples::most_pairs;
+use samples::nan;
+use samples::over_one;
+use samples::put_comb;
+use samples::put_heights;
+use samples::supplied;
+use samples::under_one;
+use samples::under_tuning;
 use slide::Begun;
 use slide::Started;
-
-// No node: twice for a tip's children, once for the root's parent.
-const NONE: u16 = 65535;
 
 // A move with its parameters. `Start` is the first call of a slide, `Slide` the second.
 enum Move {
@@ -36,14 +54,6 @@ struct Call {
     allowance: u32,
 }
 
-fn hex(n: u64) {
-    io::print_hex(STDOUT_FILENO, n, 16);
-}
-
-fn bits(x: f64) {
-    hex(real::to_bits(x));
-}
-
 // The children of the internal nodes.
 fn pairs_of(of: &[u16]) {
     text(b" pairs");
@@ -56,85 +66,9 @@ fn pairs_of(of: &[u16]) {
     }
 }
 
-fn heights_of(of: &[f64]) {
-    for k in 0..of.len() {
-        text(b" ");
-        bits(of[k]);
-    }
-}
-
 fn parents_of(of: &[u16]) {
     text(b" parents");
     marks(of);
-}
-
-fn state(random: Random) {
-    let s = random.state();
-    text(b" state ");
-    hex(s[0]);
-    text(b",");
-    hex(s[1]);
-    text(b",");
-    hex(s[2]);
-    text(b",");
-    hex(s[3]);
-}
-
-// The exponent of a scale, which is -1 at the least.
-fn exponent(k: i32) {
-    if k < 0 {
-        text(b"-1");
-    } else {
-        number(k as u64);
-    }
-}
-
-fn ratio(of: Ratio) {
-    text(b" ratio=");
-    match of {
-        Ratio::Even => text(b"even"),
-        Ratio::Counts(a, b) => {
-            text(b"counts,");
-            number(a as u64);
-            text(b",");
-            number(b as u64);
-        }
-        Ratio::Lengths(a, b) => {
-            text(b"lengths,");
-            bits(a);
-            text(b",");
-            bits(b);
-        }
-        Ratio::Power(f, k) => {
-            text(b"power,");
-            bits(f);
-            text(b",");
-            exponent(k);
-        }
-    }
-}
-
-fn draws(count: u32) {
-    text(b" draws=");
-    number(count as u64);
-}
-
-fn answer(of: Answer) {
-    match of {
-        Answer::Moved(moved) => {
-            text(b"moved");
-            draws(moved.draws);
-            let odds = moved.ratio;
-            ratio(odds);
-            text(b" root=");
-            number(moved.root as u64);
-        }
-        Answer::Declined(count) => {
-            text(b"declined");
-            draws(count);
-        }
-        Answer::Refused(why) => refused(why),
-    }
 }
 
 fn answered(of: Answered) -> Random {
@@ -159,46 +93,6 @@ fn begun(of: Started) -> Random {
         Begun::Refused(why) => refused(why),
     }
     of.random
-}
-
-// A generator goes by a number: 0 to 5 are words that are given, and every other number is a seed. START is document 01's example; the first draw
-// from UPPER is just over a half, from ZERO 0, from FULL all 1s; the second from THEN_ZERO is 0; all from ZEROS are.
-const START: u64 = 0;
-
-const UPPER: u64 = 1;
-
-const ZERO: u64 = 2;
-
-const FULL: u64 = 3;
-
-const THEN_ZERO: u64 = 4;
-
-const ZEROS: u64 = 5;
-
-fn words(seed: u64) -> [u64; 4] {
-    if seed == START {
-        return [1, 2, 3, 4];
-    }
-    if seed == UPPER {
-        return [0x8000_0000_0000_0000, 3, 5, 7];
-    }
-    if seed == ZERO {
-        return [0, 1, 2, 0];
-    }
-    if seed == FULL {
-        return [0, 1, 2, 0xffff_ffff_ffff_ffff];
-    }
-    if seed == THEN_ZERO {
-        return [0, 1, 5, 1];
-    }
-    [0, 0, 0, 0]
-}
-
-fn generator(seed: u64) -> Random {
-    if seed <= ZEROS {
-        return Random::from_state(words(seed));
-    }
-    Random::new(seed)
 }
 
 // The move, with its parameters.
@@ -226,27 +120,6 @@ fn named(to: Move) {
     }
 }
 
-// The generator and the allowance.
-fn supplied(seed: u64, allowance: u32) {
-    if seed <= ZEROS {
-        let w = words(seed);
-        text(b", words ");
-        number(w[0]);
-        text(b",");
-        number(w[1]);
-        text(b",");
-        number(w[2]);
-        text(b",");
-        number(w[3]);
-    } else {
-        text(b", seed ");
-        number(seed);
-    }
-    text(b", allowance ");
-    number(allowance as u64);
-    text(b": ");
-}
-
 // Makes the call, writes its answer, and gives the generator after it.
 fn make(c: Call, pairs: &mut [u16], over: &mut [u16], at: &mut [f64], root: usize) -> Random {
     let to = c.to;
@@ -270,42 +143,15 @@ fn line(tree: &[u8], c: Call, pairs: &mut [u16], over: &mut [u16], at: &mut [f64
     text(b" on ");
     text(tree);
     text(b" at");
-    heights_of(at);
+    floats(at);
     supplied(c.seed, c.allowance);
     let after = make(c, pairs, over, at, root);
     pairs_of(pairs);
     parents_of(over);
     text(b" heights");
-    heights_of(at);
-    state(after);
+    floats(at);
+    state(after.state());
     text(b"\n");
-}
-
-fn infinity() -> f64 {
-    real::of_bits(0x7ff0_0000_0000_0000)
-}
-
-fn nan() -> f64 {
-    real::of_bits(0x7ff8_0000_0000_0000)
-}
-
-// The largest finite height.
-fn largest() -> f64 {
-    real::of_bits(0x7fef_ffff_ffff_ffff)
-}
-
-// The least height over 1, and the greatest under it.
-fn over_one() -> f64 {
-    real::of_bits(0x3ff0_0000_0000_0001)
-}
-
-fn under_one() -> f64 {
-    real::of_bits(0x3fef_ffff_ffff_ffff)
-}
-
-// Just under the least tuning.
-fn under_tuning() -> f64 {
-    real::of_bits(0x3e45_798e_e230_8c39)
 }
 
 // Trees go by a number too. F is tree F of document 01: 3 = (0, 1) at 1, 4 = (3, 2) at 2, tips at 0. FLAT has 4 = (2, 3); SLID is F when 0 was slid
@@ -543,47 +389,6 @@ fn too_few(c: Call) {
         &mut heights,
         3,
     );
-}
-
-// The children a and b of node k, where these are nodes.
-fn put_pair(pairs: &mut [u16], k: usize, a: usize, b: usize) {
-    if k < pairs.len() / 2 {
-        if a < 65535 {
-            if b < 65535 {
-                pairs[k + k] = a as u16;
-                pairs[k + k + 1] = b as u16;
-            }
-        }
-    }
-}
-
-// Each node after the tips has the one before it and a tip.
-fn put_comb(pairs: &mut [u16]) {
-    let half = pairs.len() / 4;
-    let mut below = 0;
-    for i in 0..half {
-        put_pair(pairs, half + 1 + i, below, i + 1);
-        below = half + 1 + i;
-    }
-}
-
-// Each node after the tips is one higher than the one before it.
-fn put_heights(heights: &mut [f64]) {
-    let mut height = 0.0;
-    let mut k = heights.len() / 2 + 1;
-    while k < heights.len() {
-        height += 1.0;
-        heights[k] = height;
-        k += 1;
-    }
-}
-
-fn most_heights() -> [f64; 4095] {
-    [0.0; 4095]
-}
-
-fn most_pairs() -> [u16; 8190] {
-    [NONE; 8190]
 }
 
 fn most_parents() -> [u16; 4095] {

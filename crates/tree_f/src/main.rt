@@ -6,20 +6,13 @@ use lines::marks;
 use lines::number;
 use lines::refused;
 use lines::text;
+use lines::verdict;
 use nodes::Node;
 use nodes::Pair;
 use nodes::Quantity;
-use tree::Verdict;
-
-// No node: twice for a tip's children, once for the root's parent.
-const NONE: u16 = 65535;
-
-// Tree F of document 01: 3 = (0, 1) at 1, 4 = (3, 2) at 2, tips at 0.
-const F_PAIRS: [u16; 10] = [NONE, NONE, NONE, NONE, NONE, NONE, 0, 1, 3, 2];
-
-const F_HEIGHTS: [f64; 5] = [0.0, 0.0, 0.0, 1.0, 2.0];
-
-const F_PARENTS: [u16; 5] = [3, 3, 4, 4, NONE];
+use samples::F_HEIGHTS;
+use samples::F_PAIRS;
+use samples::F_PARENTS;
 
 fn node(name: &[u8], answer: Node) {
     text(name);
@@ -142,10 +135,7 @@ fn accessors() {
 fn ordered(name: &[u8], root: usize, order: &mut [u16]) {
     text(name);
     text(b": ");
-    match order::postorder(&F_PAIRS, &F_PARENTS, &F_HEIGHTS, root, order) {
-        Verdict::Fine => text(b"fine"),
-        Verdict::Refused(why) => refused(why),
-    }
+    verdict(order::postorder(&F_PAIRS, &F_PARENTS, &F_HEIGHTS, root, order));
     text(b", order");
     marks(order);
     text(b"\n");

@@ -1,21 +1,22 @@
 // Runs `Tree::new` and `validate` on small trees, on the smallest and the largest that are accepted, and on each kind of fault, and prints what
-// is answered. "Document 01" is the client's scope paper. Assumes nothing.
+// is answered. Assumes nothing.
 use lines::marks;
 use lines::number;
 use lines::refused;
 use lines::text;
+use lines::verdict;
+use samples::F_HEIGHTS;
+use samples::F_PAIRS;
+use samples::F_PARENTS;
+use samples::NONE;
+use samples::infinity;
+use samples::most_heights;
+use samples::most_pairs;
+use samples::nan;
+use samples::put_comb;
+use samples::put_flat;
+use samples::put_heights;
 use tree::Rooted;
-use tree::Verdict;
-
-// No node: twice for a tip's children, once for the root's parent.
-const NONE: u16 = 65535;
-
-// Tree F of document 01: 3 = (0, 1) at 1, 4 = (3, 2) at 2, tips at 0.
-const F_PAIRS: [u16; 10] = [NONE, NONE, NONE, NONE, NONE, NONE, 0, 1, 3, 2];
-
-const F_HEIGHTS: [f64; 5] = [0.0, 0.0, 0.0, 1.0, 2.0];
-
-const F_PARENTS: [u16; 5] = [3, 3, 4, 4, NONE];
 
 // A line on `new`: the root and the parents, or the refusal with the parents as they came.
 fn made(name: &[u8], pairs: &[u16], heights: &[f64], parents: &mut [u16]) {
@@ -50,10 +51,7 @@ fn dated(name: &[u8], heights: &[f64]) {
 fn validated(name: &[u8], parents: &[u16], heights: &[f64], root: usize) {
     text(name);
     text(b": ");
-    match tree::validate(&F_PAIRS, parents, heights, root) {
-        Verdict::Fine => text(b"fine"),
-        Verdict::Refused(why) => refused(why),
-    }
+    verdict(tree::validate(&F_PAIRS, parents, heights, root));
     text(b"\n");
 }
 
@@ -132,11 +130,10 @@ fn rings() {
         &[0.0, 0.0, 0.0, 0.0, 1.0, 1.0, 1.0],
         &mut parents,
     );
-    let nan = real::of_bits(0x7ff8_0000_0000_0000);
     made(
         b"the ring with a NaN",
         &ring,
-        &[0.0, 0.0, 0.0, 0.0, nan, 1.0, 1.0],
+        &[0.0, 0.0, 0.0, 0.0, nan(), 1.0, 1.0],
         &mut parents,
     );
 }
@@ -165,11 +162,11 @@ fn no_numbers(height: f64) {
 
 fn infinities() {
     text(b"infinity\n");
-    no_numbers(real::of_bits(0x7ff0_0000_0000_0000));
+    no_numbers(infinity());
     text(b"-infinity\n");
-    no_numbers(real::of_bits(0xfff0_0000_0000_0000));
+    no_numbers(-infinity());
     text(b"a NaN\n");
-    no_numbers(real::of_bits(0x7ff8_0000_0000_0000));
+    no_numbers(nan());
 }
 
 fn given() {
@@ -188,61 +185,12 @@ fn given_twice() {
     validated(b"F with both", &other, &low, 4);
 }
 
-// The children a and b of node k, where these are nodes.
-fn put_pair(pairs: &mut [u16], k: usize, a: usize, b: usize) {
-    if k < pairs.len() / 2 {
-        if a < 65535 {
-            if b < 65535 {
-                pairs[k + k] = a as u16;
-                pairs[k + k + 1] = b as u16;
-            }
-        }
-    }
-}
-
-// Each node after the tips has the one before it and a tip.
-fn put_comb(pairs: &mut [u16]) {
-    let half = pairs.len() / 4;
-    let mut below = 0;
-    for i in 0..half {
-        put_pair(pairs, half + 1 + i, below, i + 1);
-        below = half + 1 + i;
-    }
-}
-
-// Each node after the tips has two nodes in a row, so that the tree is as flat as can be.
-fn put_flat(pairs: &mut [u16]) {
-    let half = pairs.len() / 4;
-    for i in 0..half {
-        put_pair(pairs, half + 1 + i, i + i, i + i + 1);
-    }
-}
-
-// Each node after the tips is one higher than the one before it.
-fn put_heights(heights: &mut [f64]) {
-    let mut height = 0.0;
-    let mut k = heights.len() / 2 + 1;
-    while k < heights.len() {
-        height += 1.0;
-        heights[k] = height;
-        k += 1;
-    }
-}
-
 fn put_pairs(pairs: &mut [u16], comb: bool) {
     if comb {
         put_comb(pairs);
     } else {
         put_flat(pairs);
     }
-}
-
-fn most_heights() -> [f64; 4095] {
-    [0.0; 4095]
-}
-
-fn most_pairs() -> [u16; 8190] {
-    [NONE; 8190]
 }
 
 fn most_places() -> [u16; 4095] {

@@ -1,4 +1,4 @@
--- `proposals::exponent` meets its contract: what is not below zero is cast to the number that it is. Assumes nothing.
+-- `lines::exponent` meets its contract: what is not below zero is cast to the number that it is. Assumes nothing.
 use mathlib.Core.Bool.{false}
 use mathlib.Core.Path.{_≡_, sym, subst}
 use native.Mathlib.Nat.{lt-of-le-of-lt}
@@ -9,8 +9,8 @@ use mir.Syntax.{w32, w64}
 use mir.Val.{Fits, toZ, ofZ}
 use mir.ValLaws.{toZ-ofZ}
 use borrow.Author.Needs.{needs}
-use Rattle.proposals.proofs.exponent.Statement.{statement}
-use Rattle.proposals.proofs.exponent.Tie as tie
+use Rattle.lines.proofs.exponent.Statement.{statement}
+use Rattle.lines.proofs.exponent.Tie as tie
 
 not-below : (z : ℤ) → ltZ z (pos 0) ≡ false → T (nonNeg z)
 not-below (pos n) h = tt

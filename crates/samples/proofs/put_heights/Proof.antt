@@ -1,10 +1,10 @@
--- `proposals::put_heights` meets its contract. Assumes nothing.
+-- `samples::put_heights` meets its contract. Assumes nothing.
 use Prim.Native.Nat.{_-_}
 use lib.ListN.{length}
 use mathlib.Core.Path.{_≡_}
 use borrow.Author.Needs.{needs}
-use Rattle.proposals.proofs.put_heights.Statement.{statement}
-use Rattle.proposals.proofs.put_heights.Tie as tie
+use Rattle.samples.proofs.put_heights.Statement.{statement}
+use Rattle.samples.proofs.put_heights.Tie as tie
 
 abbrev Inv-loop : tie.InvT-loop
 Inv-loop heights₀ height₀ k₀ heights height k = length heights ≡ length heights₀

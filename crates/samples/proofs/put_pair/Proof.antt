@@ -1,8 +1,8 @@
--- `trees::put_pair` meets its contract. Assumes nothing.
-use Rattle.trees.proofs.PairLaws.{second-place}
+-- `samples::put_pair` meets its contract. Assumes nothing.
+use Rattle.samples.proofs.PairLaws.{second-place}
 use borrow.Author.Needs.{needs}
-use Rattle.trees.proofs.put_pair.Statement.{statement}
-use Rattle.trees.proofs.put_pair.Tie as tie
+use Rattle.samples.proofs.put_pair.Statement.{statement}
+use Rattle.samples.proofs.put_pair.Tie as tie
 
 cast-pairs : tie.Need-cast-pairs
 cast-pairs c = search (second-place, needs)
@@ -32,19 +32,19 @@ slice-write-pairs-2 : tie.Need-slice-write-pairs-2
 slice-write-pairs-2 c = search (second-place, needs)
 
 same-length : tie.Need-same-length
-same-length c = search (second-place, needs)
+same-length c = search needs
 
 returns : tie.Need-returns
-returns c = search (second-place, needs)
+returns c = search needs
 
 returns-2 : tie.Need-returns-2
-returns-2 c = search (second-place, needs)
+returns-2 c = search needs
 
 returns-3 : tie.Need-returns-3
-returns-3 c = search (second-place, needs)
+returns-3 c = search needs
 
 returns-4 : tie.Need-returns-4
-returns-4 c = search (second-place, needs)
+returns-4 c = search needs
 
 pub put-pair-spec : {M : Type 1} → statement M
 put-pair-spec =

@@ -1,10 +1,10 @@
--- `trees::put_flat` meets its contract. Assumes nothing.
+-- `samples::put_flat` meets its contract. Assumes nothing.
 use Prim.Native.Nat.{_-_, _/_, _≤_}
 use lib.ListN.{length}
 use mathlib.Core.Path.{_≡_}
 use borrow.Author.Needs.{needs}
-use Rattle.trees.proofs.put_flat.Statement.{statement}
-use Rattle.trees.proofs.put_flat.Tie as tie
+use Rattle.samples.proofs.put_flat.Statement.{statement}
+use Rattle.samples.proofs.put_flat.Tie as tie
 
 abbrev Inv-loop : tie.InvT-loop
 Inv-loop pairs₀ half i₀ pairs i = (length pairs ≡ length pairs₀) × (half ≡ length pairs₀ / 4) × (i ≤ half)
