@@ -62,6 +62,7 @@ pub record Undecided {A : Type 0} (fault : ℕ → Bool) (tips : ℕ) (call : Ve
 abbrev pub orParameter : Bool → Verdict
 orParameter limits = cond limits Verdicts.Fine (Verdicts.Refused (Parameter 0))
 
+-- the tips of the table, then the other parameters
 abbrev pub tableThen : Bool → Verdict → Verdict
 tableThen limits table = andThen table (orParameter limits)
 
