@@ -70,7 +70,7 @@ Keeps minima maxima t table why = initializeCall minima maxima (from 10·0) t ta
 
 -- ---- the rows
 
--- 0.1, 0.2, 0.7, 1.1 and 2.4
+-- 0.1, 0.2, 0.7, 1.1, 2.4 and 3.3
 abbrev 0·1 : Float
 0·1 = ofBits binary64 0x3fb9_9999_9999_999a
 
@@ -85,6 +85,9 @@ abbrev 1·1 : Float
 
 abbrev 2·4 : Float
 2·4 = ofBits binary64 0x4003_3333_3333_3333
+
+abbrev 3·3 : Float
+3·3 = ofBits binary64 0x400a_6666_6666_6666
 
 -- the least positive float
 abbrev tiny : Float
@@ -150,6 +153,9 @@ pub record DatingRows : Type 0 where
       (dated ∷ 0·0 ∷ 0·0 ∷ ofBits binary64 0x4011_147a_e147_ae15 ∷ ofBits binary64 0x4020_2e14_7ae1_47ae ∷ [])
   pub initial-fossils : Initializes (three 1·1 0·2 0·0) (three 2·4 0·7 0·0) F
       (ofBits binary64 0x3ffc_0000_0000_0000 ∷ dated ∷ 0·0 ∷ ofBits binary64 0x4014_3333_3333_3334 ∷ ofBits binary64 0x4020_b333_3333_3334 ∷ [])
+  -- bits that tell the order of the operations
+  pub initial-rounded : Initializes (three 0·1 0·0 0·0) (three 0·7 0·0 0·0) (F-at 0·0 0·0 0·0 0·7 3·3)
+      (ofBits binary64 0x3fd9_9999_9999_999a ∷ 0·0 ∷ 0·0 ∷ ofBits binary64 0x4000_3b94_03b9_403b ∷ ofBits binary64 0x4020_28f5_c28f_5c28 ∷ [])
   -- a root at 0, and a tip at fault
   pub initial-flat : Keeps present present (F-at 0·0 0·0 0·0 0·0 0·0) Verdicts.Fine (Refusals.Parameter 0)
   pub initial-fault : Keeps present (three 0·0 1·0 0·0) F (Verdicts.Refused (Refusals.Parameter 1)) (Refusals.Parameter 1)
@@ -185,6 +191,7 @@ dating-rows = record {
   age-length-first = refl;
   initial-fossil = refl;
   initial-fossils = refl;
+  initial-rounded = refl;
   initial-flat = refl;
   initial-fault = refl;
   initial-infinite = refl;
