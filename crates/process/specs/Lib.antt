@@ -1,2 +1,3 @@
--- The definitions that the contracts of process cite.
+-- The definitions that the contracts of process cite, and rows of them.
 pub mod Process
+pub mod Rows
