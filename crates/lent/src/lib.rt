@@ -1,5 +1,6 @@
 // The generator lent: a caller lends it by `&mut` and finds it advanced, as with rove's methods of the same names. Each function copies the
-// generator out, makes the draw of crate `random` on the copy, and leaves the advanced generator. Assumes nothing.
+// generator out, makes the draw of crate `random` on the copy, and leaves the generator that the draw hands back. No function has a `requires`.
+// Assumes nothing.
 ghost use mathlib.Core.Path.{_≡_};
 ghost use Rattle.random.specs.Generator.{drawnWord, drawnUniform, drawnCoin};
 ghost use Rattle.random.specs.BelowCall.{belowCall};
@@ -26,7 +27,7 @@ pub fn uniform(random: &mut Random) -> f64
     drawn.value
 }
 
-// Uniform on 0..n by at most `allowance` draws; a refused call leaves the generator as it came.
+// Uniform on 0..n by at most `allowance` draws: the number and the draws made. A refused call leaves the generator as it was lent.
 pub fn below(random: &mut Random, n: usize, allowance: u32) -> Below
     ensures { λ r. ⌜ lentBelow r (now (random .exit)) ≡ belowCall (now (random .entry)) n allowance ⌝ }
 {

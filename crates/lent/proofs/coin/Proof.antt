@@ -5,26 +5,23 @@ use mir.Syntax.{tyBool}
 use mir.Val.{vbool}
 use base.Logic.{emp}
 use contract.Monad.{factI}
-use contract.Running.{givenOf, tables, tablesOf}
 use denote.Builtin.{bool}
 use denote.Plain.{bool-lawful}
-use denote.Triple.Spec.{tripleOf}
-use denote.Triple.Table.{entered, cited}
 use Rattle.random.specs.Generator.{drawnCoin}
 use Rattle.random.proofs.DrawnCoin as S
 use Rattle.random.proofs.DrawnCoin.Laws as S′
 use Rattle.random.proofs.Random.coin.Symbol as callee
 use Rattle.random.proofs.Random.coin.Met as callee-met
 use Rattle.lent.proofs.BodyLaws.{Handed}
-use Rattle.lent.proofs.DrawLaws.{Taken, lent-meets}
+use Rattle.lent.proofs.DrawLaws.{lent-spec}
 use Rattle.lent.proofs.coin as coin
 use Rattle.lent.proofs.coin.Key as key
 use Rattle.lent.proofs.coin.Statement as stated
 use Rattle.lent.proofs.coin.Code as code
 
 -- a side, and the generator after it
-abbrev drawn : Handed
-drawn = record {
+abbrev handed : Handed
+handed = record {
   result = bool;
   pure = λ x vs. tt;
   τ = tyBool;
@@ -42,9 +39,7 @@ drawn = record {
 }
 
 pub coin-spec : {M : Type 1} → stated.statement M
-unfolding code.routine tablesOf
+unfolding code.routine
 coin-spec 𝓤 H 𝓜 𝓖 𝓡 =
-    entered 𝓤 H (tripleOf 𝓤 H (𝓖 .A) coin.signature (coin.spec 𝓤 H (𝓖 .A) (𝓜 .mem) (𝓡 .run))) (tables 𝓤 H 𝓜 𝓡 code.env .C) (tables 𝓤 H 𝓜 𝓡 code.env .Λ) key.name code.function (code.unfolded 𝓤 H 𝓜 𝓡)
-    (lent-meets drawn drawnCoin 𝓤 H (𝓖 .A) (givenOf 𝓤 H 𝓜 𝓖) (λ κs a r e. coin.clauses 𝓤 H (𝓖 .A) (𝓜 .mem) (𝓡 .run) κs a .ensures tt r e) (λ κs a r e. factI 𝓤 _ (emp 𝓤) e)
-    (tablesOf 𝓤 H 𝓜 (tables 𝓤 H 𝓜 𝓡 code.env)) callee.name
-    (cited 𝓤 H (Taken drawn drawnCoin 𝓤 H (𝓖 .A)) 𝓜 𝓡 code.env callee.name callee.routine code.calls-random·Random·coin (callee-met.met 𝓤 H 𝓜 𝓖 𝓡)))
+    lent-spec handed drawnCoin 𝓤 H 𝓜 𝓖 𝓡 (λ κs a r e. coin.clauses 𝓤 H (𝓖 .A) (𝓜 .mem) (𝓡 .run) κs a .ensures tt r e) (λ κs a r e. factI 𝓤 _ (emp 𝓤) e)
+    code.env key.name callee.name callee.routine (code.unfolded 𝓤 H 𝓜 𝓡) code.calls-random·Random·coin (callee-met.met 𝓤 H 𝓜 𝓖 𝓡)

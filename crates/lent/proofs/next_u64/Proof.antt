@@ -5,26 +5,23 @@ use mir.Syntax.{tyInt, w64}
 use mir.Val.{vint}
 use base.Logic.{emp}
 use contract.Monad.{factI}
-use contract.Running.{givenOf, tables, tablesOf}
 use denote.Builtin.{u64}
 use denote.Plain.{uint-lawful}
-use denote.Triple.Spec.{tripleOf}
-use denote.Triple.Table.{entered, cited}
 use Rattle.random.specs.Generator.{drawnWord}
 use Rattle.random.proofs.DrawnWord as S
 use Rattle.random.proofs.DrawnWord.Laws as S′
 use Rattle.random.proofs.Random.next_u64.Symbol as callee
 use Rattle.random.proofs.Random.next_u64.Met as callee-met
 use Rattle.lent.proofs.BodyLaws.{Handed}
-use Rattle.lent.proofs.DrawLaws.{Taken, lent-meets}
+use Rattle.lent.proofs.DrawLaws.{lent-spec}
 use Rattle.lent.proofs.next_u64 as next-u64
 use Rattle.lent.proofs.next_u64.Key as key
 use Rattle.lent.proofs.next_u64.Statement as stated
 use Rattle.lent.proofs.next_u64.Code as code
 
 -- a draw, and the generator after it
-abbrev drawn : Handed
-drawn = record {
+abbrev handed : Handed
+handed = record {
   result = u64;
   pure = λ x vs. (tt, tt);
   τ = tyInt w64;
@@ -42,9 +39,7 @@ drawn = record {
 }
 
 pub next-u64-spec : {M : Type 1} → stated.statement M
-unfolding code.routine tablesOf
+unfolding code.routine
 next-u64-spec 𝓤 H 𝓜 𝓖 𝓡 =
-    entered 𝓤 H (tripleOf 𝓤 H (𝓖 .A) next-u64.signature (next-u64.spec 𝓤 H (𝓖 .A) (𝓜 .mem) (𝓡 .run))) (tables 𝓤 H 𝓜 𝓡 code.env .C) (tables 𝓤 H 𝓜 𝓡 code.env .Λ) key.name code.function (code.unfolded 𝓤 H 𝓜 𝓡)
-    (lent-meets drawn drawnWord 𝓤 H (𝓖 .A) (givenOf 𝓤 H 𝓜 𝓖) (λ κs a r e. next-u64.clauses 𝓤 H (𝓖 .A) (𝓜 .mem) (𝓡 .run) κs a .ensures tt r e) (λ κs a r e. factI 𝓤 _ (emp 𝓤) e)
-    (tablesOf 𝓤 H 𝓜 (tables 𝓤 H 𝓜 𝓡 code.env)) callee.name
-    (cited 𝓤 H (Taken drawn drawnWord 𝓤 H (𝓖 .A)) 𝓜 𝓡 code.env callee.name callee.routine code.calls-random·Random·next-u64 (callee-met.met 𝓤 H 𝓜 𝓖 𝓡)))
+    lent-spec handed drawnWord 𝓤 H 𝓜 𝓖 𝓡 (λ κs a r e. next-u64.clauses 𝓤 H (𝓖 .A) (𝓜 .mem) (𝓡 .run) κs a .ensures tt r e) (λ κs a r e. factI 𝓤 _ (emp 𝓤) e)
+    code.env key.name callee.name callee.routine (code.unfolded 𝓤 H 𝓜 𝓡) code.calls-random·Random·next-u64 (callee-met.met 𝓤 H 𝓜 𝓖 𝓡)

@@ -6,26 +6,23 @@ use mir.Syntax.{tyFloat}
 use mir.Val.{vfloat}
 use base.Logic.{emp}
 use contract.Monad.{factI}
-use contract.Running.{givenOf, tables, tablesOf}
 use denote.Builtin.{f64}
 use denote.Floats.{float-lawful}
-use denote.Triple.Spec.{tripleOf}
-use denote.Triple.Table.{entered, cited}
 use Rattle.random.specs.Generator.{drawnUniform}
 use Rattle.random.proofs.DrawnUniform as S
 use Rattle.random.proofs.DrawnUniform.Laws as S′
 use Rattle.random.proofs.Random.uniform.Symbol as callee
 use Rattle.random.proofs.Random.uniform.Met as callee-met
 use Rattle.lent.proofs.BodyLaws.{Handed}
-use Rattle.lent.proofs.DrawLaws.{Taken, lent-meets}
+use Rattle.lent.proofs.DrawLaws.{lent-spec}
 use Rattle.lent.proofs.uniform as uniform
 use Rattle.lent.proofs.uniform.Key as key
 use Rattle.lent.proofs.uniform.Statement as stated
 use Rattle.lent.proofs.uniform.Code as code
 
 -- a uniform, and the generator after it
-abbrev drawn : Handed
-drawn = record {
+abbrev handed : Handed
+handed = record {
   result = f64;
   pure = λ x vs. (tt, tt);
   τ = tyFloat binary64;
@@ -43,9 +40,7 @@ drawn = record {
 }
 
 pub uniform-spec : {M : Type 1} → stated.statement M
-unfolding code.routine tablesOf
+unfolding code.routine
 uniform-spec 𝓤 H 𝓜 𝓖 𝓡 =
-    entered 𝓤 H (tripleOf 𝓤 H (𝓖 .A) uniform.signature (uniform.spec 𝓤 H (𝓖 .A) (𝓜 .mem) (𝓡 .run))) (tables 𝓤 H 𝓜 𝓡 code.env .C) (tables 𝓤 H 𝓜 𝓡 code.env .Λ) key.name code.function (code.unfolded 𝓤 H 𝓜 𝓡)
-    (lent-meets drawn drawnUniform 𝓤 H (𝓖 .A) (givenOf 𝓤 H 𝓜 𝓖) (λ κs a r e. uniform.clauses 𝓤 H (𝓖 .A) (𝓜 .mem) (𝓡 .run) κs a .ensures tt r e) (λ κs a r e. factI 𝓤 _ (emp 𝓤) e)
-    (tablesOf 𝓤 H 𝓜 (tables 𝓤 H 𝓜 𝓡 code.env)) callee.name
-    (cited 𝓤 H (Taken drawn drawnUniform 𝓤 H (𝓖 .A)) 𝓜 𝓡 code.env callee.name callee.routine code.calls-random·Random·uniform (callee-met.met 𝓤 H 𝓜 𝓖 𝓡)))
+    lent-spec handed drawnUniform 𝓤 H 𝓜 𝓖 𝓡 (λ κs a r e. uniform.clauses 𝓤 H (𝓖 .A) (𝓜 .mem) (𝓡 .run) κs a .ensures tt r e) (λ κs a r e. factI 𝓤 _ (emp 𝓤) e)
+    code.env key.name callee.name callee.routine (code.unfolded 𝓤 H 𝓜 𝓡) code.calls-random·Random·uniform (callee-met.met 𝓤 H 𝓜 𝓖 𝓡)
