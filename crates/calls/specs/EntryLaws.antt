@@ -118,11 +118,14 @@ module _ (t : Tree) (g : Random) (allowance : ℕ) (turn : Turn) (pairs parents 
 
 -- ---- the unvalidated call
 
--- v is what was said of the limits
-module _ (pairs parents : List ℕ) (heights : List Float) (root : ℕ) (h : Accepted (treeOf pairs parents heights root)) (limits : Bool) (allowance : ℕ)
-    (v : Verdict) (e : v ≡ limited limits allowance) (program : Draw (Reply Outcome)) (g : Random) where
+-- b is whether the parameters are within their limits, and v what was said of it
+module _ (pairs parents : List ℕ) (heights : List Float) (root : ℕ) (h : Accepted (treeOf pairs parents heights root)) (limits b : Bool) (eb : b ≡ limits)
+    (allowance : ℕ) (v : Verdict) (ev : v ≡ limited b allowance) (program : Draw (Reply Outcome)) (g : Random) where
   abbrev lent : Tree
   lent = treeOf pairs parents heights root
+
+  e : v ≡ limited limits allowance
+  e = ev ∙ ap (λ (x : Bool). limited x allowance) eb
 
   -- what is answered where the limits are refused is the call
   pub unvalidated-refused : (why : Refusal) → v ≡ Verdicts.Refused why → (r : Answered) → r ≡ turnedBack why g
