@@ -13,28 +13,28 @@ use lib.Dec.{T}
 one : Bool → ℕ
 one b = cond b 1 0
 
+one-le : (a b : Bool) → (T a → T b) → one a ≤ one b
+unfolding one
+one-le true true h = omega arith
+one-le true false h = absurd (h tt)
+one-le false b h = omega arith
+
+one-lt : (a b : Bool) → T (not a) → T b → one a < one b
+unfolding one
+one-lt false true h k = omega arith
+one-lt true b h k = absurd h
+one-lt false false h k = absurd k
+
 count : (ℕ → Bool) → ℕ → ℕ
 count f zero = 0
 count f (suc m) = count f m + one (f m)
 
 module _ (f g : ℕ → Bool) where
-  one-le : (a b : Bool) → (T a → T b) → one a ≤ one b
-  unfolding one
-  one-le true true h = omega arith
-  one-le true false h = absurd (h tt)
-  one-le false b h = omega arith
-
   -- a test that is passed wherever another is, is passed as often
   count-le : (m : ℕ) → ((i : ℕ) → i < m → T (f i) → T (g i)) → count f m ≤ count g m
   unfolding count
   count-le zero also = omega arith
   count-le (suc m) also = omega (arith, count-le m (λ i I. also i (omega arith)), one-le (f m) (g m) (also m (omega arith)))
-
-  one-lt : (a b : Bool) → T (not a) → T b → one a < one b
-  unfolding one
-  one-lt false true h k = omega arith
-  one-lt true b h k = absurd h
-  one-lt false false h k = absurd k
 
   -- and more often, where it is passed once more
   count-lt : (m : ℕ) → ((i : ℕ) → i < m → T (f i) → T (g i)) → (j : ℕ) → j < m → T (not (f j)) → T (g j) → count f m < count g m

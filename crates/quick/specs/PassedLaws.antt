@@ -1,4 +1,4 @@
--- What a tree that passes the test has. In order: lengths of a tree (`sized-lengths`); what the test says of each node (`strict-passed`); and,
+-- What a tree that passes the test has. In order: a tree's lengths (`sizes-lent`); what the test says of each node (`strict-passed`); and,
 -- since the pairs name as many different children as there are nodes but the root, that every other node is a child and younger than its
 -- parent (`passed-below`, `passed-younger`). Assumes nothing.
 use mathlib.Core.Path.{_≡_, refl, sym, ap, _∙_, subst}
@@ -8,7 +8,7 @@ use mathlib.Core.List.{List, [], _∷_}
 use Prim.Native.Nat.{ℕ, suc, _+_, _-_, _/_, _%_, _≤_, _<_}
 use native.Mathlib.Omega.{arith}
 use native.Mathlib.Decide.{ℕ-discrete}
-use lib.Dec.{T, ltb, leb, eqb, ltb→lt, leb→le, eqb→eq}
+use lib.Dec.{T, ltb, eqb, ltb→lt, eqb→eq}
 use lib.ListN.{length, getD, drop, length-drop}
 use lib.Seq.{getD-drop}
 use lib.Ieee.{Float, lt, le}
@@ -16,37 +16,28 @@ use lib.Ieee.Bits.{is-true}
 use lib.Ieee.Fits.{and-l, and-r}
 use Rattle.real.specs.Real as Real
 use Rattle.tree.specs.Tree.{Tree, noNode, tipsOf, first, second, parent, height}
-use Rattle.tree.specs.Given.{treeOf}
-use Rattle.tree.specs.Valid.{Sized, Inner, Below}
+use Rattle.tree.specs.New.{sizeFits}
+use Rattle.tree.specs.Given.{sizesFit, treeOf}
+use Rattle.tree.specs.Valid.{Sized, Inner, Below, Strict}
+use Rattle.tree.specs.SizeLaws.{fit-of}
 use Rattle.tree.specs.Bounded.{every}
 use Rattle.tree.specs.BoundedLaws.{every-at}
 use Rattle.tree.specs.ListLaws.{Has, has-one, has-cases, Distinct, distinct-one, distinct-append, full}
 use Rattle.tree.specs.ScanLaws.{neqb→ne}
-use Rattle.quick.specs.Quick.{sized, isMark, isAge, family, familyAt, strict}
+use Rattle.quick.specs.Quick.{isMark, isAge, family, familyAt, strict}
 
 -- ---- what the test says
 
 -- slices whose lengths fit have those of a tree, whatever its root
-pub sized-lengths : (pairs ps : List ℕ) (hs : List Float) (r : ℕ) → T (sized (length hs) (length pairs) (length ps)) → Sized (length hs) (treeOf pairs ps hs r)
-unfolding sized
-sized-lengths pairs ps hs r h =
+pub sizes-lent : (pairs ps : List ℕ) (hs : List Float) (r : ℕ) → T (sizesFit (length hs) (length pairs) (length ps) (length hs))
+    → Sized (length hs) (treeOf pairs ps hs r)
+unfolding sizesFit
+sizes-lent pairs ps hs r h =
     let n = length hs in
-    let a = leb n 4095 in
-    let b = leb 3 n in
-    let c = eqb (n % 2) 1 in
-    let d = eqb (length pairs) (n + n) in
-    let e = eqb (length ps) n in
-    let h4 = and-l (a && b && c && d) e h in
-    let h3 = and-l (a && b && c) d h4 in
-    let h2 = and-l (a && b) c h3 in
-    record {
-      some = leb→le 3 n (and-r a b h2);
-      few = leb→le n 4095 (and-l a b h2);
-      odd = eqb→eq (n % 2) 1 (and-r (a && b) c h3);
-      pairs = eqb→eq (length pairs) (n + n) (and-r (a && b && c) d h4);
-      parents = eqb→eq (length ps) n (and-r (a && b && c && d) e h);
-      heights = refl;
-    }
+    let fits = sizeFits n pairs hs in
+    let many = eqb (length ps) n in
+    let f = fit-of n pairs hs (and-l fits many h) in
+    record { some = f .some; few = f .few; odd = f .odd; pairs = f .twice; parents = eqb→eq (length ps) n (and-r fits many h); heights = f .heights }
 
 -- k and its children
 pub record Family (n : ℕ) (t : Tree) (k : ℕ) : Type 0 where
@@ -54,6 +45,7 @@ pub record Family (n : ℕ) (t : Tree) (k : ℕ) : Type 0 where
   pub first-younger : T (lt (height t (first t k)) (height t k))
   pub second-younger : T (lt (height t (second t k)) (height t k))
 
+-- what the test says
 pub record Passed (n : ℕ) (t : Tree) : Type 0 where
   pub root-node : t .root < n
   pub root-parent : parent t (t .root) ≡ noNode
@@ -123,20 +115,24 @@ strict-passed n t odd h =
 
 -- ---- every node but the root is a child
 
+-- a place of the pairs is a first child's or a second child's
+abbrev pub Halves : ℕ → Type 0
+Halves x = (x ≡ x / 2 + x / 2) ⊎ (x ≡ suc (x / 2 + x / 2))
+
+pub halves : (x : ℕ) → Halves x
+halves x = elim (ℕ-discrete x (x / 2 + x / 2)) [ yes e ↦ inl e | no d ↦ inr (omega arith) ]
+
 module _ (n : ℕ) (t : Tree) (z : Sized n t) (p : Passed n t) where
-  -- the number at place x of the pairs, a child of node x / 2
-  abbrev at : ℕ → ℕ
-  at x = getD (t .pairs) x 0
+  -- the number at place x of the pairs: a child of node x / 2
+  abbrev child : ℕ → ℕ
+  child x = getD (t .pairs) x 0
 
-  -- a place is a first child's or a second child's
-  halves : (x : ℕ) → (x ≡ x / 2 + x / 2) ⊎ (x ≡ suc (x / 2 + x / 2))
-  halves x = elim (ℕ-discrete x (x / 2 + x / 2)) [ yes e ↦ inl e | no d ↦ inr (omega arith) ]
-
+  -- the child at place x
   record Slot (x : ℕ) : Type 0 where
     two : first t (x / 2) ≢ second t (x / 2)
-    node : at x < n
-    above : parent t (at x) ≡ x / 2
-    side : (at x ≡ first t (x / 2)) ⊎ (at x ≡ second t (x / 2))
+    node : child x < n
+    above : parent t (child x) ≡ x / 2
+    side : (child x ≡ first t (x / 2)) ⊎ (child x ≡ second t (x / 2))
 
   slot : (x : ℕ) → n < x → x < n + n → Slot x
   slot x A B = pick (halves x)
@@ -144,9 +140,13 @@ module _ (n : ℕ) (t : Tree) (z : Sized n t) (p : Passed n t) where
       f : Inner n t (x / 2)
       f = let odd = z .odd in p .family-of (x / 2) (omega arith) (omega arith) .inner
 
-      pick : (x ≡ x / 2 + x / 2) ⊎ (x ≡ suc (x / 2 + x / 2)) → Slot x
-      pick (inl e) = let g : at x ≡ first t (x / 2) = ap at e in record { two = f .two; node = rw g (f .first-node); above = ap (parent t) g ∙ f .first-parent; side = inl g }
-      pick (inr e) = let g : at x ≡ second t (x / 2) = ap at e in record { two = f .two; node = rw g (f .second-node); above = ap (parent t) g ∙ f .second-parent; side = inr g }
+      pick : Halves x → Slot x
+      pick (inl e) =
+          let g : child x ≡ first t (x / 2) = ap child e in
+          record { two = f .two; node = rw g (f .first-node); above = ap (parent t) g ∙ f .first-parent; side = inl g }
+      pick (inr e) =
+          let g : child x ≡ second t (x / 2) = ap child e in
+          record { two = f .two; node = rw g (f .second-node); above = ap (parent t) g ∙ f .second-parent; side = inr g }
 
   -- the children that the pairs name, after the tips' marks
   slots : List ℕ
@@ -159,7 +159,7 @@ module _ (n : ℕ) (t : Tree) (z : Sized n t) (p : Passed n t) where
   slot-at : (a : ℕ) → a < length slots → Slot (suc n + a)
   slot-at a A = let l = slots-long in slot (suc n + a) (omega arith) (omega arith)
 
-  slots-are : (a : ℕ) → getD slots a 0 ≡ at (suc n + a)
+  slots-are : (a : ℕ) → getD slots a 0 ≡ child (suc n + a)
   unfolding slots
   slots-are a = getD-drop (suc n) (t .pairs) a 0
 
@@ -173,16 +173,16 @@ module _ (n : ℕ) (t : Tree) (z : Sized n t) (p : Passed n t) where
       y : ℕ
       y = suc n + b
 
-      g : at x ≡ at y
+      g : child x ≡ child y
       g = sym (slots-are a) ∙ e ∙ slots-are b
 
       same : x / 2 ≡ y / 2
       same = sym (slot-at a A .above) ∙ ap (parent t) g ∙ slot-at b B .above
 
-      apart : (u v : ℕ) → at u ≡ at v → u ≡ x / 2 + x / 2 → v ≡ suc (x / 2 + x / 2) → ⊥
-      apart u v q i j = slot-at a A .two (sym (ap at i) ∙ q ∙ ap at j)
+      apart : (u v : ℕ) → child u ≡ child v → u ≡ x / 2 + x / 2 → v ≡ suc (x / 2 + x / 2) → ⊥
+      apart u v q i j = slot-at a A .two (sym (ap child i) ∙ q ∙ ap child j)
 
-      pick : (x ≡ x / 2 + x / 2) ⊎ (x ≡ suc (x / 2 + x / 2)) → (y ≡ y / 2 + y / 2) ⊎ (y ≡ suc (y / 2 + y / 2)) → a ≡ b
+      pick : Halves x → Halves y → a ≡ b
       pick (inl i) (inl j) = omega (arith, same)
       pick (inl i) (inr j) = absurd (apart x y g i (omega (arith, same)))
       pick (inr i) (inl j) = absurd (apart y x (sym g) (omega (arith, same)) i)
@@ -192,7 +192,7 @@ module _ (n : ℕ) (t : Tree) (z : Sized n t) (p : Passed n t) where
   slot-below : (c : ℕ) → Has slots c → Below n t c
   slot-below c (a, A, e) =
       let s = slot-at a A in
-      let g : at (suc n + a) ≡ c = sym (slots-are a) ∙ e in
+      let g : child (suc n + a) ≡ c = sym (slots-are a) ∙ e in
       let up : parent t c ≡ (suc n + a) / 2 = sym (ap (parent t) g) ∙ s .above in
       let l = slots-long in
       let odd = z .odd in
@@ -202,15 +202,15 @@ module _ (n : ℕ) (t : Tree) (z : Sized n t) (p : Passed n t) where
   pub passed-below : (c : ℕ) → c < n → c ≢ t .root → Below n t c
   passed-below c C d = pick (has-cases (t .root ∷ []) slots (full n (t .root ∷ slots) slots-long distinct small c C))
     where
-      child : (b : ℕ) → Has slots b → b ≢ t .root
-      child b h e =
+      not-root : (b : ℕ) → Has slots b → b ≢ t .root
+      not-root b h e =
           let x = slot-below b h .parent-node in
           let y : parent t b ≡ noNode = ap (parent t) e ∙ p .root-parent in
           let few = z .few in
           omega arith
 
       distinct : Distinct (t .root ∷ slots)
-      distinct = distinct-append (t .root ∷ []) slots (distinct-one (t .root)) slots-distinct (λ b u v. child b v (has-one u))
+      distinct = distinct-append (t .root ∷ []) slots (distinct-one (t .root)) slots-distinct (λ b u v. not-root b v (has-one u))
 
       below : (b : ℕ) → Has (t .root ∷ []) b ⊎ Has slots b → b < n
       below b (inl u) = rw (has-one u) (p .root-node)
@@ -224,7 +224,7 @@ module _ (n : ℕ) (t : Tree) (z : Sized n t) (p : Passed n t) where
       pick (inr u) = slot-below c u
 
   -- every node but the root is younger than its parent
-  pub passed-younger : (c : ℕ) → c < n → c ≢ t .root → T (lt (height t c) (height t (parent t c)))
+  pub passed-younger : Strict n t
   passed-younger c C d = let b = passed-below c C d in pick (p .family-of (parent t c) (b .parent-node) (b .parent-inner)) (b .side)
     where
       pick : Family n t (parent t c) → (c ≡ first t (parent t c)) ⊎ (c ≡ second t (parent t c)) → T (lt (height t c) (height t (parent t c)))

@@ -1,9 +1,9 @@
--- A test that ordinary trees pass, those whose children are all younger than their parents, and that only valid trees pass (QuickLaws). It
--- reads each pair once and keeps no list. Definitions only. Assumes nothing.
+-- A test of a tree with fitting lengths that reads each pair once and keeps no list. It lets pass the valid trees in which every child is younger than
+-- its parent, and no other (QuickLaws). Definitions only. Assumes nothing.
 use mathlib.Core.Bool.{Bool, not, _&&_}
 use mathlib.Core.List.{List}
-use Prim.Native.Nat.{ℕ, _+_, _/_, _%_, _<_}
-use lib.Dec.{ltb, leb, eqb}
+use Prim.Native.Nat.{ℕ, _+_, _/_, _<_}
+use lib.Dec.{ltb, eqb}
 use lib.ListN.{length, getD}
 use lib.Ieee.{Float, nan, lt, le}
 use Rattle.real.specs.Real as Real
@@ -13,10 +13,6 @@ use Rattle.tree.specs.Valid.{Sized}
 use Rattle.tree.specs.Bounded.{every}
 
 -- ---- the test
-
--- n nodes may make a tree, and pairs and parents have as many
-unfoldable pub sized : ℕ → ℕ → ℕ → Bool
-sized n pairs parents = leb n 4095 && leb 3 n && eqb (n % 2) 1 && eqb pairs (n + n) && eqb parents n
 
 -- the number at place i of the pairs is the mark
 abbrev pub isMark : List ℕ → ℕ → Bool
@@ -31,7 +27,8 @@ unfoldable pub family : ℕ → List ℕ → List ℕ → List Float → ℕ →
 family n pairs ps hs k =
     let a = firstIn pairs k in
     let b = secondIn pairs k in
-    ltb a n && ltb b n && not (eqb a b) && eqb (getD ps a 0) k && eqb (getD ps b 0) k && lt (getD hs a nan) (getD hs k nan) && lt (getD hs b nan) (getD hs k nan)
+    let h = getD hs k nan in
+    ltb a n && ltb b n && not (eqb a b) && eqb (getD ps a 0) k && eqb (getD ps b 0) k && lt (getD hs a nan) h && lt (getD hs b nan) h
 
 -- the same of the internal node at j from the first: the tips come before it
 abbrev pub familyAt : ℕ → List ℕ → List ℕ → List Float → ℕ → Bool

@@ -1,12 +1,13 @@
-// `validate` of a tree, for speed: an ordinary tree passes a test that goes over the slices once, and any other goes to `tree::validate`, which
-// says what is wrong with it. specs/Quick.antt has the test; that it lets only valid trees pass is shown in specs/QuickLaws.antt. Assumes nothing.
+// `validate` of a tree, for speed: a tree in which every child is younger than its parent passes a test that goes over the slices once, and any
+// other goes to `tree::validate`, which says what is wrong with it, if anything is. specs/Quick.antt has the test; specs/QuickLaws.antt shows that it lets only
+// valid trees pass. Assumes nothing.
 ghost use mathlib.Core.Path.{_≡_};
 ghost use Prim.Native.Nat.{_≤_, _/_};
 ghost use lib.ListN.{length};
 ghost use Rattle.tree.specs.Bounded.{every};
-ghost use Rattle.tree.specs.Given.{treeOf};
+ghost use Rattle.tree.specs.Given.{sizesFit, treeOf};
 ghost use Rattle.tree.specs.New.{validated};
-ghost use Rattle.quick.specs.Quick.{sized, isMark, isAge, family, familyAt, strict, Lent, Reads};
+ghost use Rattle.quick.specs.Quick.{isMark, isAge, family, familyAt, strict, Lent, Reads};
 use tree::Verdict;
 
 // Whether the first numbers of the pairs are marks.
@@ -75,9 +76,9 @@ fn are_families(pairs: &[u16], parents: &[u16], heights: &[f64]) -> bool
     true
 }
 
-// Whether the slices' lengths are those of a tree of n nodes.
+// Whether pairs and parents have the lengths of a tree that has n heights.
 fn is_sized(n: usize, pairs: usize, parents: usize) -> bool
-    ensures { λ r. ⌜ r ≡ sized n pairs parents ⌝ }
+    ensures { λ r. ⌜ r ≡ sizesFit n pairs parents n ⌝ }
 {
     if n <= 4095 {
         return (3 <= n) & (n % 2 == 1) & (pairs == n + n) & (parents == n);
@@ -85,7 +86,7 @@ fn is_sized(n: usize, pairs: usize, parents: usize) -> bool
     false
 }
 
-// Whether each child of a tree is younger than its parent, and the tree is in order for all else.
+// Whether the slices and the root are those of one tree in order in which each child is younger than its parent.
 fn is_strict(pairs: &[u16], parents: &[u16], heights: &[f64], root: usize) -> bool
     requires { ⌜ Lent (now pairs) (now parents) (now heights) ⌝ }
     ensures { λ r. ⌜ r ≡ strict (length (now (heights .entry))) (treeOf (now (pairs .entry)) (now (parents .entry)) (now (heights .entry)) root) ⌝ }
