@@ -149,7 +149,7 @@ pub fn wide_exchange(
 ) -> Answered
     ensures { λ r. ⌜ called (r .answer) (r .random) (now (pairs .exit)) (now (parents .exit)) (now (heights .entry)) ≡ moveCall wideExchange (treeOf (now (pairs .entry)) (now (parents .entry)) (now (heights .entry)) root) random allowance ⌝ }
 {
-    match tree::validate(pairs, parents, heights, root) {
+    match quick::validate(pairs, parents, heights, root) {
         Verdict::Refused(why) => {
             return calls::refuse(why, random);
         }
@@ -384,7 +384,7 @@ pub fn narrow_exchange(
 ) -> Answered
     ensures { λ r. ⌜ called (r .answer) (r .random) (now (pairs .exit)) (now (parents .exit)) (now (heights .entry)) ≡ moveCall narrowExchange (treeOf (now (pairs .entry)) (now (parents .entry)) (now (heights .entry)) root) random allowance ⌝ }
 {
-    match tree::validate(pairs, parents, heights, root) {
+    match quick::validate(pairs, parents, heights, root) {
         Verdict::Refused(why) => {
             return calls::refuse(why, random);
         }

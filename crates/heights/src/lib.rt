@@ -167,7 +167,7 @@ pub fn node_height(
 ) -> Answered
     ensures { λ r. ⌜ called (r .answer) (r .random) (now (pairs .entry)) (now (parents .entry)) (now (heights .exit)) ≡ moveCall nodeHeight (treeOf (now (pairs .entry)) (now (parents .entry)) (now (heights .entry)) root) random allowance ⌝ }
 {
-    match tree::validate(pairs, parents, heights, root) {
+    match quick::validate(pairs, parents, heights, root) {
         Verdict::Refused(why) => {
             return calls::refuse(why, random);
         }
@@ -257,7 +257,7 @@ pub fn root_scale(
 ) -> Answered
     ensures { λ r. ⌜ called (r .answer) (r .random) (now (pairs .entry)) (now (parents .entry)) (now (heights .exit)) ≡ moveCall (rootScale tuning) (treeOf (now (pairs .entry)) (now (parents .entry)) (now (heights .entry)) root) random allowance ⌝ }
 {
-    match tree::validate(pairs, parents, heights, root) {
+    match quick::validate(pairs, parents, heights, root) {
         Verdict::Refused(why) => {
             return calls::refuse(why, random);
         }
@@ -378,7 +378,7 @@ pub fn tree_scale(
 ) -> Answered
     ensures { λ r. ⌜ called (r .answer) (r .random) (now (pairs .entry)) (now (parents .entry)) (now (heights .exit)) ≡ moveCall (treeScale tuning) (treeOf (now (pairs .entry)) (now (parents .entry)) (now (heights .entry)) root) random allowance ⌝ }
 {
-    match tree::validate(pairs, parents, heights, root) {
+    match quick::validate(pairs, parents, heights, root) {
         Verdict::Refused(why) => {
             return calls::refuse(why, random);
         }

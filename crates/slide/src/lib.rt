@@ -141,7 +141,7 @@ pub fn slide_start(
 ) -> Started
     ensures { λ r. ⌜ r ≡ startedOf random (startCall (treeOf (now (pairs .entry)) (now (parents .entry)) (now (heights .entry)) root) random allowance) ⌝ }
 {
-    match tree::validate(pairs, parents, heights, root) {
+    match quick::validate(pairs, parents, heights, root) {
         Verdict::Fine => {
             return slide_start_unvalidated(pairs, parents, heights, root, random, allowance);
         }
@@ -341,7 +341,7 @@ pub fn subtree_slide(
 ) -> Answered
     ensures { λ r. ⌜ called (r .answer) (r .random) (now (pairs .exit)) (now (parents .exit)) (now (heights .exit)) ≡ moveCall (subtreeSlide node step) (treeOf (now (pairs .entry)) (now (parents .entry)) (now (heights .entry)) root) random allowance ⌝ }
 {
-    match tree::validate(pairs, parents, heights, root) {
+    match quick::validate(pairs, parents, heights, root) {
         Verdict::Fine => {
             return subtree_slide_unvalidated(
                 pairs,

@@ -303,7 +303,7 @@ pub fn wilson_balding(
 ) -> Answered
     ensures { λ r. ⌜ called (r .answer) (r .random) (now (pairs .exit)) (now (parents .exit)) (now (heights .exit)) ≡ moveCall wilsonBalding (treeOf (now (pairs .entry)) (now (parents .entry)) (now (heights .entry)) root) random allowance ⌝ }
 {
-    match tree::validate(pairs, parents, heights, root) {
+    match quick::validate(pairs, parents, heights, root) {
         Verdict::Refused(why) => {
             return calls::refuse(why, random);
         }
