@@ -58,7 +58,7 @@ fn is_family(pairs: &[u16], parents: &[u16], heights: &[f64], node: usize) -> bo
     false
 }
 
-// Whether each internal node's are.
+// Whether that is so of every internal node.
 fn are_families(pairs: &[u16], parents: &[u16], heights: &[f64]) -> bool
     requires { ⌜ Lent (now pairs) (now parents) (now heights) ⌝ }
     ensures { λ r. ⌜ r ≡ every (familyAt (length (now (heights .entry))) (now (pairs .entry)) (now (parents .entry)) (now (heights .entry))) (length (now (heights .entry)) / 2) ⌝ }
