@@ -60,12 +60,15 @@ tuningIn words = realIn words 7
 
 -- ---- what a call writes: `sets words k xs` is the words with xs from place k on
 
--- the generator in words 0 to 3, the root in word 4, an answer in words 8 to 12
+-- the generator in words 0 to 3, the root in word 4, a node in word 6, an answer in words 8 to 12
 abbrev pub withGenerator : Random → List ℕ → List ℕ
 withGenerator g words = sets words 0 (stateOf g)
 
 abbrev pub withRoot : ℕ → List ℕ → List ℕ
 withRoot root words = set words 4 root
+
+abbrev pub withNode : ℕ → List ℕ → List ℕ
+withNode node words = set words 6 node
 
 abbrev pub withReply : Reply → List ℕ → List ℕ
 withReply r words = sets words 8 (r .code ∷ r .draws ∷ r .kind ∷ r .first ∷ r .second ∷ [])

@@ -5,7 +5,7 @@ ghost use mathlib.Core.List.{[], _∷_};
 ghost use lib.ListN.{set};
 ghost use lib.Seq.{sets};
 ghost use Rattle.record.specs.Record.{isRecord, wordIn, realIn, generatorIn, rootIn, allowanceIn, nodeIn, tuningIn};
-ghost use Rattle.record.specs.Record.{withGenerator, withRoot, complement, movedReply, givenReply, refusedReply, written, replied, proposed, answered, judged};
+ghost use Rattle.record.specs.Record.{withGenerator, withRoot, withNode, complement, movedReply, givenReply, refusedReply, written, replied, proposed, answered, judged};
 ghost use lib.Ieee.{binary64, toBits};
 use answer::Answer;
 use answer::Proposal;
@@ -143,6 +143,12 @@ pub fn put_root(words: &mut [u64], root: usize)
     ensures { λ _. ⌜ now (words .exit) ≡ withRoot root (now (words .entry)) ⌝ }
 {
     put(words, ROOT, root as u64);
+}
+
+pub fn put_node(words: &mut [u64], node: usize)
+    ensures { λ _. ⌜ now (words .exit) ≡ withNode node (now (words .entry)) ⌝ }
+{
+    put(words, NODE, node as u64);
 }
 
 // Words 8 to 12; the answer code.
