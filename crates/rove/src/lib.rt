@@ -158,7 +158,7 @@ pub extern "C" fn rove_node_height(
 }
 
 // The answer of a slide's first call.
-fn put_started(words: &mut [u64], started: Started) -> u64
+pub fn put_started(words: &mut [u64], started: Started) -> u64
     ensures { λ r. ⌜ written r (now (words .exit)) ≡ begunLeft (started .answer) (started .random) (now (words .entry)) ⌝ }
 {
     let random = started.random;

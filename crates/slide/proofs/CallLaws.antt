@@ -50,13 +50,10 @@ module _ (pairs parents : List ℕ) (heights : List Float) (root i : ℕ) (step 
   abbrev t : Tree
   t = treeOf pairs parents heights root
 
-  is-limited : v ≡ limited (slidable t i step) allowance
-  is-limited = rw (← el) ev
-
   pub call-refused : (why : Refusal) → v ≡ Verdicts.Refused why → (g : Random) (r : Answered) → r ≡ turnedBack why g
       → called (r .answer) (r .random) pairs parents heights ≡ moveCall (subtreeSlide i step) t g allowance
   call-refused why y g r er =
-      unvalidated-refused pairs parents heights root h (slidable t i step) allowance v is-limited (Programs.subtreeSlide i step t) g why y r er
+      unvalidated-refused pairs parents heights root h (slidable t i step) limits el allowance v ev (Programs.subtreeSlide i step t) g why y r er
 
   module _ (y : v ≡ Verdicts.Fine) where
     slides : Slidable pairs parents heights root i
@@ -73,7 +70,7 @@ module _ (pairs parents : List ℕ) (heights : List Float) (root i : ℕ) (step 
         → (r : Answered) → r ≡ answeredOf (turn .turned) (turn .supply) g allowance
         → called (r .answer) (r .random) pairs′ parents′ heights′ ≡ moveCall (subtreeSlide i step) t g allowance
     call-done g turn pairs′ parents′ heights′ e r er =
-        unvalidated-done pairs parents heights root h (slidable t i step) allowance v is-limited (Programs.subtreeSlide i step t) g y turn pairs′ parents′ heights′
+        unvalidated-done pairs parents heights root h (slidable t i step) limits el allowance v ev (Programs.subtreeSlide i step t) g y turn pairs′ parents′ heights′
         (λ _. e slides) r er
 
 pub ruleset callLaws = (call-refused, call-done)
