@@ -18,16 +18,15 @@ pub extern "C" fn rove_node_height_unvalidated(
     ensures { λ r. ⌜ (Accepted (treeIn (now (pairs .entry)) (now (parents .entry)) (now (heights .entry)) (now (words .entry))) → left (written r (now (words .exit))) (now (pairs .entry)) (now (parents .entry)) (now (heights .exit)) ≡ exported nodeHeight (now (pairs .entry)) (now (parents .entry)) (now (heights .entry)) (now (words .entry))) ⌝ }
 {
     if record::is_record(words) {
-        let root = record::root(words);
-        let random = record::generator(words);
-        let allowance = record::allowance(words);
+        let given = record::read(words);
+        let random = given.random;
         let answered = heights::node_height_unvalidated(
             pairs,
             parents,
             heights,
-            root,
+            given.root,
             random,
-            allowance,
+            given.allowance,
         );
         return record::put_answer(words, answered);
     }
@@ -45,16 +44,15 @@ pub extern "C" fn rove_slide_start_unvalidated(
     ensures { λ r. ⌜ (Accepted (treeIn (now (pairs .entry)) (now (parents .entry)) (now (heights .entry)) (now (words .entry))) → written r (now (words .exit)) ≡ startExported (now (pairs .entry)) (now (parents .entry)) (now (heights .entry)) (now (words .entry))) ⌝ }
 {
     if record::is_record(words) {
-        let root = record::root(words);
-        let random = record::generator(words);
-        let allowance = record::allowance(words);
+        let given = record::read(words);
+        let random = given.random;
         let started = slide::slide_start_unvalidated(
             pairs,
             parents,
             heights,
-            root,
+            given.root,
             random,
-            allowance,
+            given.allowance,
         );
         return rove::put_started(words, started);
     }
@@ -72,20 +70,19 @@ pub extern "C" fn rove_subtree_slide_unvalidated(
     ensures { λ r. ⌜ (Accepted (treeIn (now (pairs .entry)) (now (parents .entry)) (now (heights .entry)) (now (words .entry))) → left (written r (now (words .exit))) (now (pairs .exit)) (now (parents .exit)) (now (heights .exit)) ≡ exported (subtreeSlide (nodeIn (now (words .entry))) (tuningIn (now (words .entry)))) (now (pairs .entry)) (now (parents .entry)) (now (heights .entry)) (now (words .entry))) ⌝ }
 {
     if record::is_record(words) {
-        let root = record::root(words);
+        let given = record::read(words);
+        let random = given.random;
         let node = record::node(words);
         let step = record::tuning(words);
-        let random = record::generator(words);
-        let allowance = record::allowance(words);
         let answered = slide::subtree_slide_unvalidated(
             pairs,
             parents,
             heights,
-            root,
+            given.root,
             node,
             step,
             random,
-            allowance,
+            given.allowance,
         );
         return record::put_answer(words, answered);
     }
@@ -102,16 +99,15 @@ pub extern "C" fn rove_narrow_exchange_unvalidated(
     ensures { λ r. ⌜ (Accepted (treeIn (now (pairs .entry)) (now (parents .entry)) (now (heights .entry)) (now (words .entry))) → left (written r (now (words .exit))) (now (pairs .exit)) (now (parents .exit)) (now (heights .entry)) ≡ exported narrowExchange (now (pairs .entry)) (now (parents .entry)) (now (heights .entry)) (now (words .entry))) ⌝ }
 {
     if record::is_record(words) {
-        let root = record::root(words);
-        let random = record::generator(words);
-        let allowance = record::allowance(words);
+        let given = record::read(words);
+        let random = given.random;
         let answered = exchanges::narrow_exchange_unvalidated(
             pairs,
             parents,
             heights,
-            root,
+            given.root,
             random,
-            allowance,
+            given.allowance,
         );
         return record::put_answer(words, answered);
     }
@@ -128,16 +124,15 @@ pub extern "C" fn rove_wide_exchange_unvalidated(
     ensures { λ r. ⌜ (Accepted (treeIn (now (pairs .entry)) (now (parents .entry)) (now (heights .entry)) (now (words .entry))) → left (written r (now (words .exit))) (now (pairs .exit)) (now (parents .exit)) (now (heights .entry)) ≡ exported wideExchange (now (pairs .entry)) (now (parents .entry)) (now (heights .entry)) (now (words .entry))) ⌝ }
 {
     if record::is_record(words) {
-        let root = record::root(words);
-        let random = record::generator(words);
-        let allowance = record::allowance(words);
+        let given = record::read(words);
+        let random = given.random;
         let answered = exchanges::wide_exchange_unvalidated(
             pairs,
             parents,
             heights,
-            root,
+            given.root,
             random,
-            allowance,
+            given.allowance,
         );
         return record::put_answer(words, answered);
     }
@@ -154,16 +149,15 @@ pub extern "C" fn rove_wilson_balding_unvalidated(
     ensures { λ r. ⌜ (Accepted (treeIn (now (pairs .entry)) (now (parents .entry)) (now (heights .entry)) (now (words .entry))) → left (written r (now (words .exit))) (now (pairs .exit)) (now (parents .exit)) (now (heights .exit)) ≡ exported wilsonBalding (now (pairs .entry)) (now (parents .entry)) (now (heights .entry)) (now (words .entry))) ⌝ }
 {
     if record::is_record(words) {
-        let root = record::root(words);
-        let random = record::generator(words);
-        let allowance = record::allowance(words);
+        let given = record::read(words);
+        let random = given.random;
         let answered = wilson::wilson_balding_unvalidated(
             pairs,
             parents,
             heights,
-            root,
+            given.root,
             random,
-            allowance,
+            given.allowance,
         );
         return record::put_answer(words, answered);
     }
@@ -181,18 +175,17 @@ pub extern "C" fn rove_root_scale_unvalidated(
     ensures { λ r. ⌜ (Accepted (treeIn (now (pairs .entry)) (now (parents .entry)) (now (heights .entry)) (now (words .entry))) → left (written r (now (words .exit))) (now (pairs .entry)) (now (parents .entry)) (now (heights .exit)) ≡ exported (rootScale (tuningIn (now (words .entry)))) (now (pairs .entry)) (now (parents .entry)) (now (heights .entry)) (now (words .entry))) ⌝ }
 {
     if record::is_record(words) {
-        let root = record::root(words);
+        let given = record::read(words);
+        let random = given.random;
         let tuning = record::tuning(words);
-        let random = record::generator(words);
-        let allowance = record::allowance(words);
         let answered = heights::root_scale_unvalidated(
             pairs,
             parents,
             heights,
-            root,
+            given.root,
             tuning,
             random,
-            allowance,
+            given.allowance,
         );
         return record::put_answer(words, answered);
     }
@@ -210,18 +203,17 @@ pub extern "C" fn rove_tree_scale_unvalidated(
     ensures { λ r. ⌜ (Accepted (treeIn (now (pairs .entry)) (now (parents .entry)) (now (heights .entry)) (now (words .entry))) → left (written r (now (words .exit))) (now (pairs .entry)) (now (parents .entry)) (now (heights .exit)) ≡ exported (treeScale (tuningIn (now (words .entry)))) (now (pairs .entry)) (now (parents .entry)) (now (heights .entry)) (now (words .entry))) ⌝ }
 {
     if record::is_record(words) {
-        let root = record::root(words);
+        let given = record::read(words);
+        let random = given.random;
         let tuning = record::tuning(words);
-        let random = record::generator(words);
-        let allowance = record::allowance(words);
         let answered = heights::tree_scale_unvalidated(
             pairs,
             parents,
             heights,
-            root,
+            given.root,
             tuning,
             random,
-            allowance,
+            given.allowance,
         );
         return record::put_answer(words, answered);
     }

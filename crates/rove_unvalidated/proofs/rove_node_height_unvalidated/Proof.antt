@@ -7,14 +7,8 @@ use Rattle.rove_unvalidated.proofs.rove_node_height_unvalidated.Tie as 
 is-record-requires : tie.Need-is-record-requires
 is-record-requires c κs = search needs
 
-root-requires : tie.Need-root-requires
-root-requires c κs = search needs
-
-generator-requires : tie.Need-generator-requires
-generator-requires c κs = search needs
-
-allowance-requires : tie.Need-allowance-requires
-allowance-requires c κs = search needs
+read-requires : tie.Need-read-requires
+read-requires c κs = search needs
 
 node-height-unvalidated-requires : tie.Need-node-height-unvalidated-requires
 node-height-unvalidated-requires c κs = search needs
@@ -42,9 +36,7 @@ rove-node-height-unvalidated-spec =
     tie.close
     (tie.spec
     is-record-requires
-    root-requires
-    generator-requires
-    allowance-requires
+    read-requires
     node-height-unvalidated-requires
     put-answer-requires
     same-length

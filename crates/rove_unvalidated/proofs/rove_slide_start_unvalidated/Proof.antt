@@ -7,14 +7,8 @@ use Rattle.rove_unvalidated.proofs.rove_slide_start_unvalidated.Tie as 
 is-record-requires : tie.Need-is-record-requires
 is-record-requires c κs = search needs
 
-root-requires : tie.Need-root-requires
-root-requires c κs = search needs
-
-generator-requires : tie.Need-generator-requires
-generator-requires c κs = search needs
-
-allowance-requires : tie.Need-allowance-requires
-allowance-requires c κs = search needs
+read-requires : tie.Need-read-requires
+read-requires c κs = search needs
 
 slide-start-unvalidated-requires : tie.Need-slide-start-unvalidated-requires
 slide-start-unvalidated-requires c κs = search needs
@@ -39,9 +33,7 @@ rove-slide-start-unvalidated-spec =
     tie.close
     (tie.spec
     is-record-requires
-    root-requires
-    generator-requires
-    allowance-requires
+    read-requires
     slide-start-unvalidated-requires
     put-started-requires
     same-length

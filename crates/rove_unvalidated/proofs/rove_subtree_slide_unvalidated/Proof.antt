@@ -7,20 +7,14 @@ use Rattle.rove_unvalidated.proofs.rove_subtree_slide_unvalidated.Tie a
 is-record-requires : tie.Need-is-record-requires
 is-record-requires c κs = search needs
 
-root-requires : tie.Need-root-requires
-root-requires c κs = search needs
+read-requires : tie.Need-read-requires
+read-requires c κs = search needs
 
 node-requires : tie.Need-node-requires
 node-requires c κs = search needs
 
 tuning-requires : tie.Need-tuning-requires
 tuning-requires c κs = search needs
-
-generator-requires : tie.Need-generator-requires
-generator-requires c κs = search needs
-
-allowance-requires : tie.Need-allowance-requires
-allowance-requires c κs = search needs
 
 subtree-slide-unvalidated-requires : tie.Need-subtree-slide-unvalidated-requires
 subtree-slide-unvalidated-requires c κs = search needs
@@ -54,11 +48,9 @@ rove-subtree-slide-unvalidated-spec =
     tie.close
     (tie.spec
     is-record-requires
-    root-requires
+    read-requires
     node-requires
     tuning-requires
-    generator-requires
-    allowance-requires
     subtree-slide-unvalidated-requires
     put-answer-requires
     same-length

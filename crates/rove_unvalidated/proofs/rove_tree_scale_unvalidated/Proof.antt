@@ -7,17 +7,11 @@ use Rattle.rove_unvalidated.proofs.rove_tree_scale_unvalidated.Tie as t
 is-record-requires : tie.Need-is-record-requires
 is-record-requires c κs = search needs
 
-root-requires : tie.Need-root-requires
-root-requires c κs = search needs
+read-requires : tie.Need-read-requires
+read-requires c κs = search needs
 
 tuning-requires : tie.Need-tuning-requires
 tuning-requires c κs = search needs
-
-generator-requires : tie.Need-generator-requires
-generator-requires c κs = search needs
-
-allowance-requires : tie.Need-allowance-requires
-allowance-requires c κs = search needs
 
 tree-scale-unvalidated-requires : tie.Need-tree-scale-unvalidated-requires
 tree-scale-unvalidated-requires c κs = search needs
@@ -45,10 +39,8 @@ rove-tree-scale-unvalidated-spec =
     tie.close
     (tie.spec
     is-record-requires
-    root-requires
+    read-requires
     tuning-requires
-    generator-requires
-    allowance-requires
     tree-scale-unvalidated-requires
     put-answer-requires
     same-length
