@@ -13,7 +13,7 @@ use mir.Syntax.{w64}
 use mir.Val.{Fits}
 use Rattle.text.specs.Text.{bytes, digit, hexText, decimalText}
 use Rattle.print.specs.Writing.{Written, written, writeByte, write}
-use Rattle.print.specs.WritingLaws.{byte-inside, byte-past, write-append}
+use Rattle.print.specs.WritingLaws.{byte-inside, byte-past, byte-then}
 use Rattle.print.specs.NumberLaws.{hex-next, decimal-one, decimal-more, digits-one, digits-more, digits-few}
 
 -- ---- a byte
@@ -88,7 +88,7 @@ module _ (w : Written) (n : ℕ) where
   -- n has two digits or more, since it is at least some number that has
   pub decimal-last : (least : ℕ) → least ≤ n → 10 ≤ least → n < 2 ^ 64 → (d : List ℕ) (p : ℕ) → written d p ≡ write w (decimalText (n / 10)) → (v : Written)
       → v ≡ writeByte (written d p) (digit (n % 10)) → v ≡ write w (decimalText n)
-  decimal-last least h l f d p a v e = rw (decimal-more n (omega arith) f, ← write-append w (decimalText (n / 10)) (digit (n % 10) ∷ []), ← a) (unfold write in e)
+  decimal-last least h l f d p a v e = rw (decimal-more n (omega arith) f) (byte-then w (written d p) v (decimalText (n / 10)) (digit (n % 10)) a e)
 
 pub decimal-two : (w : Written) (n : ℕ) → 10 ≤ n → n < 100 → (d : List ℕ) (p : ℕ) → written d p ≡ writeByte w (digit (n / 10)) → (v : Written)
     → v ≡ writeByte (written d p) (digit (n % 10)) → v ≡ write w (decimalText n)

@@ -1,5 +1,5 @@
 -- Laws of writing. In order: one byte, inside the slice and past its end (`byte-inside`, `byte-past`); a text after a text is the two as one
--- (`write-append`); the slice keeps its length (`write-length`); a text that fits stands at its place, the rest being as it was (`write-fits`). Assumes nothing.
+-- (`write-append`, `write-then`, `byte-then`); the slice keeps its length (`write-length`); a text that fits stands at its place, the rest being as it was (`write-fits`). Assumes nothing.
 use mathlib.Core.Path.{_≡_, refl, sym, ap, _∙_}
 use mathlib.Core.Bool.{Bool, true, false, cond}
 use mathlib.Core.List.{List, [], _∷_, _++_}
@@ -37,6 +37,14 @@ pub write-append : (w : Written) (t u : List ℕ) → write (write w t) u ≡ wr
 unfolding write
 write-append w [] u = refl
 write-append w (b ∷ t) u = write-append (writeByte w b) t u
+
+-- what is written after a text
+pub write-then : (w a v : Written) (t u : List ℕ) → a ≡ write w t → v ≡ write a u → v ≡ write w (t ++ u)
+write-then w a v t u ea ev = rw (← write-append w t u, ← ea) ev
+
+pub byte-then : (w a v : Written) (t : List ℕ) (b : ℕ) → a ≡ write w t → v ≡ writeByte a b → v ≡ write w (t ++ (b ∷ []))
+unfolding write
+byte-then w a v t b ea ev = write-then w a v t (b ∷ []) ea ev
 
 pub write-length : (w : Written) (t : List ℕ) → length (write w t .bytes) ≡ length (w .bytes)
 unfolding write

@@ -1,0 +1,3 @@
+-- The laws that the proofs of notation share.
+mod SignLaws
+mod PutLaws

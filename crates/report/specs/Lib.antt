@@ -1,0 +1,2 @@
+-- Report has the text of an answer.
+pub mod Report

@@ -1,0 +1,1 @@
+// The text of an answer, written into a lent slice. Assumes nothing.
