@@ -94,7 +94,7 @@ pub ruleset ratioLaws = (ratio-even, ratio-counts, ratio-lengths, ratio-power)
 
 -- ---- the pairs, of which those from node k on are left
 
-next-pair : (n k : ℕ) (pairs : List ℕ) → k < n
+pub next-pair : (n k : ℕ) (pairs : List ℕ) → k < n
     → pairLines (n - k) k pairs ≡ pairLine (getD pairs (k + k) 0) (getD pairs (k + k + 1) 0) ++ pairLines (n - (k + 1)) (k + 1) pairs
 unfolding pairLines
 next-pair n k pairs h =

@@ -1,11 +1,14 @@
 // The values and the lines of an answer's text, written into a lent slice from a place on as the crate print writes, and how long some of them are. Every
 // function that writes is total. Assumes nothing.
 ghost use mathlib.Core.Path.{_≡_};
+ghost use Prim.Native.Nat.{_≤_};
 ghost use lib.IntN.{natAbs};
+ghost use lib.ListN.{length};
 ghost use Rattle.text.specs.Text.{wordText, decimalText};
 ghost use Rattle.print.specs.Writing.{written, write};
 ghost use Rattle.notation.specs.Notation.{line, comma, bitsText, negative, signedText, stateText, ratioText, pairLine, pairsText, heightLine, heightsText};
 use answer::Ratio;
+use print::decimal_len;
 use print::put_byte;
 use print::put_decimal;
 use print::put_text;
@@ -149,4 +152,55 @@ pub fn put_heights(out: &mut [u8], at: usize, heights: &[f64]) -> usize
         k += 1;
     }
     place
+}
+
+// ---- how long they are
+
+fn signed_len(k: i32) -> usize
+    ensures { λ r. ⌜ r ≡ length (signedText k) ⌝ }
+{
+    let digits = decimal_len(magnitude(k));
+    if is_negative(k) {
+        return digits + 1;
+    }
+    digits
+}
+
+pub fn ratio_len(ratio: Ratio) -> usize
+    ensures { λ r. ⌜ r ≡ length (ratioText ratio) ⌝ }
+{
+    match ratio {
+        Ratio::Even => {
+            return 4;
+        }
+        Ratio::Counts(a, b) => {
+            return 8 + decimal_len(a as u64) + decimal_len(b as u64);
+        }
+        Ratio::Lengths(_, _) => {
+            return 41;
+        }
+        Ratio::Power(_, k) => {
+            return 23 + signed_len(k);
+        }
+    }
+}
+
+fn pair_len(a: u16, b: u16) -> usize
+    ensures { λ r. ⌜ r ≡ length (pairLine a b) ⌝ }
+{
+    7 + decimal_len(a as u64) + decimal_len(b as u64)
+}
+
+pub fn pairs_len(pairs: &[u16]) -> usize
+    requires { ⌜ length (now pairs) ≤ 8190 ⌝ }
+    ensures { λ r. ⌜ r ≡ length (pairsText (now (pairs .entry))) ⌝ }
+{
+    let n = pairs.len() / 2;
+    let mut sum = 0;
+    let mut k = n - n / 2;
+    while k < n {
+        sum += pair_len(pairs[k + k], pairs[k + k + 1]);
+        k += 1;
+    }
+    sum
 }
