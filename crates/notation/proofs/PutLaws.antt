@@ -20,18 +20,12 @@ use Rattle.print.specs.WritingLaws.{write-append, write-then}
 use Rattle.tree.specs.Tree.{firstIn, secondIn}
 use Rattle.tree.specs.PlaceLaws.{next-place}
 use Rattle.notation.specs.Notation.{line, comma, bitsText, negative, signedText, stateText, ratioText, pairLine, pairLines, pairsText, heightLine, heightsText}
-use Rattle.notation.specs.NotationLaws.{write-comma, write-line}
+use Rattle.notation.specs.NotationLaws.{write-comma, comma-put, line-put}
 use Rattle.notation.proofs.SignLaws.{read}
 
 -- ---- values
 
 module _ (w a b v : Written) where
-  pub comma-put : (x y : List ℕ) → a ≡ write w x → b ≡ writeByte a 44 → v ≡ write b y → v ≡ write w (comma x y)
-  comma-put x y ea eb ev = rw (write-comma w x y, ← ea, ← eb) ev
-
-  pub line-put : (key value : List ℕ) → a ≡ write w key → b ≡ write a value → v ≡ writeByte b 10 → v ≡ write w (line key value)
-  line-put key value ea eb ev = rw (write-line w key value, ← ea, ← eb) ev
-
   pub state-put : (s : List ℕ) → a ≡ write w (comma (wordText (getD s 0 0)) (wordText (getD s 1 0))) → b ≡ writeByte a 44
       → v ≡ write b (comma (wordText (getD s 2 0)) (wordText (getD s 3 0))) → v ≡ write w (stateText s)
   unfolding stateText
@@ -44,10 +38,10 @@ module _ (w a b v : Written) where
   module _ (f : Float) (n : ℕ) (en : n ≡ toBits binary64 f) where
     pub power-put : (k : ℤ) → SFits w32 k → a ≡ write w (wordText n) → b ≡ writeByte a 44 → v ≡ write b (signedText (read k))
         → v ≡ write w (comma (bitsText f) (signedText k))
-    power-put k s ea eb ev = rw (← en) (comma-put (wordText n) (signedText k) ea eb (rw (toZ-ofZ w32 k s) at ev))
+    power-put k s ea eb ev = rw (← en) (comma-put w a b v (wordText n) (signedText k) ea eb (rw (toZ-ofZ w32 k s) at ev))
 
     pub height-put : a ≡ write w (bytes "height=") → b ≡ write a (wordText n) → v ≡ writeByte b 10 → v ≡ write w (heightLine f)
-    height-put ea eb ev = rw (← en) (line-put (bytes "height=") (wordText n) ea eb ev)
+    height-put ea eb ev = rw (← en) (line-put w a b v (bytes "height=") (wordText n) ea eb ev)
 
 pub ruleset valueLaws = (comma-put, line-put, state-put, power-put, height-put)
 

@@ -1,2 +1,3 @@
--- Report has the text of an answer.
+-- Report has the text of an answer, Few how large a tree may be whose text is measured.
 pub mod Report
+pub mod Few

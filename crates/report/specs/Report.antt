@@ -6,6 +6,7 @@ use lib.Dec.{ltb}
 use lib.ListN.{length, drop}
 use lib.Ieee.{Float}
 use Rattle.answer.specs.declared.Refusal.{Refusal}
+use Rattle.answer.specs.declared.Ratio.{Ratio}
 use Rattle.answer.specs.declared.Answer.{Answer}
 use Rattle.answer.specs.declared.Answer.the-variants as Answers
 use Rattle.answer.specs.Answers.{numberOf, detailOf}
@@ -17,9 +18,17 @@ use Rattle.notation.specs.Notation.{line, comma, stateText, ratioText, pairsTex
 
 -- ---- answers
 
--- "the first three lines": "answer, draws made, state after"
-unfoldable pub headText : List ℕ → ℕ → Random → List ℕ
-headText answer draws g = line (bytes "answer=") answer ++ line (bytes "draws=") (decimalText draws) ++ line (bytes "state=") (stateText (stateOf g))
+-- "draws made, state after"
+unfoldable pub drawnText : ℕ → Random → List ℕ
+drawnText draws g = line (bytes "draws=") (decimalText draws) ++ line (bytes "state=") (stateText (stateOf g))
+
+-- "ratio kind with f and k, root"
+unfoldable pub oddsText : Ratio → ℕ → List ℕ
+oddsText ratio root = line (bytes "ratio=") (ratioText ratio) ++ line (bytes "root=") (decimalText root)
+
+-- "pairs, heights"
+unfoldable pub treeText : List ℕ → List Float → List ℕ
+treeText pairs heights = pairsText pairs ++ heightsText heights
 
 -- "a refusal prints `answer=refused,number,detail` alone"
 unfoldable pub refusedText : Refusal → List ℕ
@@ -28,12 +37,8 @@ refusedText why = line (bytes "answer=") (comma (bytes "refused") (comma (decima
 -- "answer, draws made, state after, ratio kind with f and k, root, pairs, heights"; "Declined prints the first three lines"
 unfoldable pub answerText : Answer → Random → List ℕ → List Float → List ℕ
 answerText (Answers.Moved m) g pairs heights =
-    headText (bytes "moved") (m .draws) g
-    ++ line (bytes "ratio=") (ratioText (m .ratio))
-    ++ line (bytes "root=") (decimalText (m .root))
-    ++ pairsText pairs
-    ++ heightsText heights
-answerText (Answers.Declined draws) g pairs heights = headText (bytes "declined") draws g
+    line (bytes "answer=") (bytes "moved") ++ drawnText (m .draws) g ++ oddsText (m .ratio) (m .root) ++ treeText pairs heights
+answerText (Answers.Declined draws) g pairs heights = line (bytes "answer=") (bytes "declined") ++ drawnText draws g
 answerText (Answers.Refused why) g pairs heights = refusedText why
 
 -- the text of what a call leaves
