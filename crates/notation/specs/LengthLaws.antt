@@ -7,6 +7,7 @@ use native.Mathlib.Omega.{arith}
 use lib.IntN.{ℤ, natAbs}
 use lib.ListN.{length, length-append}
 use lib.Ieee.{Float, binary64, toBits}
+use Rattle.answer.specs.declared.Ratio.{Ratio}
 use Rattle.answer.specs.declared.Ratio.the-variants as Ratios
 use Rattle.text.specs.Text.{bytes, lineEnd, wordText, decimalText}
 use Rattle.print.specs.NumberLaws.{hex-length, digits-few}
@@ -54,6 +55,13 @@ length-lengths a b = simp (length-comma, length-word)
 pub length-power : (f : Float) (k : ℤ) → length (ratioText (Ratios.Power f k)) ≡ 23 + length (signedText k)
 unfolding ratioText
 length-power f k = simp (length-comma, length-word) (omega arith)
+
+pub ratio-few : (r : Ratio) → length (ratioText r) ≤ 48
+unfolding ratioText
+ratio-few Ratios.Even = omega arith
+ratio-few (Ratios.Counts a b) = let e = length-counts a b in let f = digits-few a in let g = digits-few b in omega arith
+ratio-few (Ratios.Lengths a b) = let e = length-lengths a b in omega arith
+ratio-few (Ratios.Power f k) = let e = length-power f k in let g = signed-few k in omega arith
 
 -- ---- the tree
 

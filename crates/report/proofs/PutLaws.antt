@@ -16,6 +16,7 @@ use Rattle.print.specs.Writing.{Written, writeByte, write}
 use Rattle.print.specs.WritingLaws.{write-then}
 use Rattle.notation.specs.Notation.{line, comma, stateText, ratioText, pairsText, heightsText}
 use Rattle.notation.specs.NotationLaws.{line-put}
+use Rattle.report.specs.ReportLaws.{deliver-short, deliver-whole}
 use Rattle.report.specs.Report.{drawnText, oddsText, treeText, refusedText, answerText}
 
 -- ---- parts
@@ -75,3 +76,7 @@ module _ (w v : Written) (answer : Answer) (g : Random) (pairs : List ℕ) (heig
   answer-refused why e ev = rw e ev
 
 pub ruleset answerLaws = (answer-moved, answer-declined, answer-refused)
+
+-- ---- a text where it fits
+
+pub ruleset deliverLaws = (deliver-short, deliver-whole)

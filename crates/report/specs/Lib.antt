@@ -1,3 +1,4 @@
--- Report has the text of an answer, Few how large a tree may be whose text is measured.
+-- Report has the text of an answer, Few the bound under which the code measures it; ReportLaws are how long each text is.
 pub mod Report
 pub mod Few
+pub mod ReportLaws

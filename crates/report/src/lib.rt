@@ -114,3 +114,69 @@ pub fn put_answer(out: &mut [u8], answered: Answered, pairs: &[u16], heights: &[
         }
     }
 }
+
+// ---- how long it is
+
+fn odds_len(ratio: Ratio, root: usize) -> usize
+    ensures { λ r. ⌜ r ≡ length (oddsText ratio root) ⌝ }
+{
+    13 + ratio_len(ratio) + decimal_len(root as u64)
+}
+
+fn tree_len(pairs: &[u16], heights: &[f64]) -> usize
+    requires { ⌜ Few (now pairs) (now heights) ⌝ }
+    ensures { λ r. ⌜ r ≡ length (treeText (now (pairs .entry)) (now (heights .entry))) ⌝ }
+{
+    pairs_len(pairs) + 24 * heights.len()
+}
+
+fn refused_len(why: Refusal) -> usize
+    ensures { λ r. ⌜ r ≡ length (refusedText why) ⌝ }
+{
+    17 + decimal_len(why.number() as u64) + decimal_len(why.detail() as u64)
+}
+
+fn report_len(answered: Answered, pairs: &[u16], heights: &[f64]) -> usize
+    requires { ⌜ Few (now pairs) (now heights) ⌝ }
+    ensures { λ r. ⌜ r ≡ length (answerText (answered .answer) (answered .random) (now (pairs .entry)) (now (heights .entry))) ⌝ }
+{
+    let answer = answered.answer;
+    match answer {
+        Answer::Moved(moved) => {
+            let ratio = moved.ratio;
+            return 94
+                + decimal_len(moved.draws as u64)
+                + odds_len(ratio, moved.root)
+                + tree_len(pairs, heights);
+        }
+        Answer::Declined(draws) => {
+            return 97 + decimal_len(draws as u64);
+        }
+        Answer::Refused(why) => {
+            return refused_len(why);
+        }
+    }
+}
+
+// ---- both
+
+// The text of an answer at the start of the slice, and how long it is; 0, with nothing written, where the slice is too short.
+pub fn put_report(out: &mut [u8], answered: Answered, pairs: &[u16], heights: &[f64]) -> usize
+    requires { ⌜ Few (now pairs) (now heights) ⌝ }
+    ensures { λ r. ⌜ delivery r (now (out .exit)) ≡ delivered (now (out .entry)) (answerText (answered .answer) (answered .random) (now (pairs .entry)) (now (heights .entry))) ⌝ }
+{
+    if out.len() < report_len(answered, pairs, heights) {
+        return 0;
+    }
+    put_answer(out, answered, pairs, heights)
+}
+
+// The text of a refusal in the same way.
+pub fn put_refusal(out: &mut [u8], why: Refusal) -> usize
+    ensures { λ r. ⌜ delivery r (now (out .exit)) ≡ delivered (now (out .entry)) (refusedText why) ⌝ }
+{
+    if out.len() < refused_len(why) {
+        return 0;
+    }
+    put_refused(out, why)
+}
