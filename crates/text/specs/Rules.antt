@@ -35,12 +35,10 @@ literal [] s = parsed tt s
 literal (k ∷ ks) [] = malformed
 literal (k ∷ ks) (b ∷ s) = cond (eqb b k) (literal ks s) malformed
 
--- a rule between two fixed texts
-unfoldable pub between : {A : Type 0} → List ℕ → Rule A → List ℕ → Rule A
-between before rule after = do
-  _ ← literal before
-  a ← rule
-  _ ← literal after
+-- a fixed text that stands for a value
+unfoldable pub fixed : {A : Type 0} → List ℕ → A → Rule A
+fixed text a = do
+  _ ← literal text
   return a
 
 -- ---- digits
