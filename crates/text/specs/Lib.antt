@@ -1,2 +1,6 @@
 pub mod Text
 pub mod Rules
+pub mod Places
+pub mod DigitLaws
+pub mod ReadBackLaws
+pub mod ExactLaws

@@ -1,6 +1,6 @@
 -- Rules of a grammar. A rule takes a text, and gives the value that stands at its start with the rest of the text, or finds that the text does not
 -- start as the rule says. Definitions only. Assumes nothing.
-use mathlib.Core.Bool.{Bool, cond, _&&_}
+use mathlib.Core.Bool.{Bool, false, cond, _&&_}
 use mathlib.Core.List.{List, [], _∷_}
 use Prim.Native.Nat.{ℕ, zero, suc, _+_, _*_, _-_}
 use lib.Dec.{leb, ltb, eqb}
@@ -35,12 +35,10 @@ literal [] s = parsed tt s
 literal (k ∷ ks) [] = malformed
 literal (k ∷ ks) (b ∷ s) = cond (eqb b k) (literal ks s) malformed
 
--- a rule between two fixed texts
-unfoldable pub between : {A : Type 0} → List ℕ → Rule A → List ℕ → Rule A
-between before rule after = do
-  _ ← literal before
-  a ← rule
-  _ ← literal after
+-- a fixed text that stands for a value
+unfoldable pub fixed : {A : Type 0} → List ℕ → A → Rule A
+fixed text a = do
+  _ ← literal text
   return a
 
 -- ---- digits
@@ -78,3 +76,8 @@ decimalAfter limit n (b ∷ s) =
 unfoldable pub decimal : ℕ → Rule ℕ
 decimal limit [] = malformed
 decimal limit (b ∷ s) = cond (eqb b 48) (parsed 0 s) (cond (isDecimal b) (decimalAfter limit 0 (b ∷ s)) malformed)
+
+-- whether a text starts with a decimal digit, which a number before it would take in
+abbrev pub startsDecimal : List ℕ → Bool
+startsDecimal [] = false
+startsDecimal (b ∷ s) = isDecimal b

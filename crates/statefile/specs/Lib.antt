@@ -1,0 +1,4 @@
+pub mod Lines
+pub mod StateFile
+pub mod Given
+pub mod Rows
