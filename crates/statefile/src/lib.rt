@@ -112,7 +112,14 @@ fn read_head(s: &[u8], values: &[u8; 256]) -> HeadRead
                         return HeadRead::Wrong(7);
                     };
                     let tips = tips as u32;
-                    return HeadRead::Read(Head { supplied, asked, tips }, e);
+                    return HeadRead::Read(
+                        Head {
+                            supplied,
+                            asked,
+                            tips,
+                        },
+                        e,
+                    );
                 }
                 AskedRead::Wrong(line) => {
                     return HeadRead::Wrong(line);
