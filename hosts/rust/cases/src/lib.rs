@@ -1,6 +1,7 @@
 //! Inputs for the hosts that compare, damage and time: trees, state files, damaged ones, and a plain reading of document
 //! 01's state file and answer. Nothing here is of the Rust or of the port.
 
+pub mod answers;
 pub mod chance;
 pub mod damage;
 pub mod shapes;

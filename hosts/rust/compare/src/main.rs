@@ -5,19 +5,29 @@
 //!
 //! `--seed S` gives other cases.
 
+mod dating;
 mod files;
+mod moves;
 mod oracle;
+mod parameters;
 mod plain;
+mod port;
 mod ratio;
 mod replay;
 mod tally;
+mod trees;
 
 use oracle::Compared;
 use std::process::ExitCode;
 use tally::Tally;
 
 /// The parts, with the function that compares so many cases from a seed.
-const PARTS: [(&str, fn(u64, u64) -> Compared<Tally>); 1] = [("files", files::compare)];
+const PARTS: [(&str, fn(u64, u64) -> Compared<Tally>); 4] = [
+    ("files", files::compare),
+    ("moves", moves::compare),
+    ("trees", trees::compare),
+    ("parameters", parameters::compare),
+];
 
 fn main() -> ExitCode {
     let words: Vec<String> = std::env::args().skip(1).collect();

@@ -178,13 +178,17 @@ fn run_scripted(call: &Call, before: &Tree) -> Option<Ran> {
     };
     let tuning = if slides { 1.0 } else { call.tuning };
     let log = unspent(|| scripted::propose(scripted_move(call.kind), &mut tree, tuning, &mut random))?;
-    let state = random.state();
-    let draws = if state == [0; 4] { Some(random.made()) } else { draws(call.state, state, call.allowance) };
-    Some(Ran { log, state, draws, tree: plain_scripted(&tree) })
+    let draws = drawn(&random, call.state, call.allowance);
+    Some(Ran { log, state: random.state(), draws, tree: plain_scripted(&tree) })
+}
+
+/// The draws that a generator has made since a state, where they are within an allowance.
+pub fn drawn(random: &Random, from: [u64; 4], allowance: u64) -> Option<u64> {
+    if from == [0; 4] { Some(random.made()) } else { draws(from, random.state(), allowance) }
 }
 
 /// What a function gives, unless its draws are spent.
-fn unspent<T>(run: impl FnOnce() -> T) -> Option<T> {
+pub fn unspent<T>(run: impl FnOnce() -> T) -> Option<T> {
     match catch_unwind(AssertUnwindSafe(run)) {
         Ok(value) => Some(value),
         Err(why) if why.is::<Spent>() => None,

@@ -1,0 +1,43 @@
+//! Rounds in turn and their medians.
+
+use std::fmt::Write;
+use std::hint::black_box;
+use std::time::Instant;
+
+/// A way to do something so many times: makes what it needs, and is then timed.
+pub type Way<'a> = Box<dyn FnMut() -> Box<dyn FnMut()> + 'a>;
+
+const ROUNDS: usize = 21;
+
+/// The median time of each way in nanoseconds for one of so many times; the ways take turns.
+pub fn medians(times: usize, ways: &mut [Way]) -> Vec<f64> {
+    let mut seen = vec![Vec::with_capacity(ROUNDS); ways.len()];
+    for _ in 0..ROUNDS {
+        for (way, seen) in ways.iter_mut().zip(&mut seen) {
+            let mut run = way();
+            let began = Instant::now();
+            run();
+            seen.push(began.elapsed().as_nanos() as f64 / times as f64);
+            black_box(&mut run);
+        }
+    }
+    seen.into_iter().map(median).collect()
+}
+
+fn median(mut times: Vec<f64>) -> f64 {
+    times.sort_by(f64::total_cmp);
+    times[times.len() / 2]
+}
+
+/// A line of a table: what was timed, the times, and ratios of the second to the first of the pairs named.
+pub fn line(name: &str, size: &str, times: &[f64], ratios: &[(usize, usize)]) -> String {
+    let mut line = format!("| {name} | {size} |");
+    for time in times {
+        let digits = if *time < 100.0 { 1 } else { 0 };
+        write!(line, " {time:.digits$} |").expect("a line");
+    }
+    for &(rust, port) in ratios {
+        write!(line, " {:.2} |", times[port] / times[rust]).expect("a line");
+    }
+    line
+}
