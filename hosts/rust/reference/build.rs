@@ -53,7 +53,10 @@ fn main() {
 fn copy(from: &Path, to: &Path) {
     println!("cargo:rerun-if-changed={}", from.display());
     let text = fs::read(from).unwrap_or_else(|fault| {
-        panic!("the Rust is not at hand: {}: {fault}. ROVE_SOURCE names the folder that has it under src/", from.display())
+        panic!(
+            "the Rust is not at hand: {}: {fault}. ROVE_SOURCE names the folder that has it under src/",
+            from.display()
+        )
     });
     fs::create_dir_all(to.parent().expect("a folder")).expect("the folder is made");
     fs::write(to, text).expect("the file is written");

@@ -11,7 +11,9 @@ use std::hint::black_box;
 const SEED: u64 = 20_261_105;
 
 pub fn table() {
-    println!("| move | nodes | Rust, ns | port, unvalidated | Rust's `validate` and move | port, checked | unvalidated over Rust | checked over `validate` and move |");
+    println!(
+        "| move | nodes | Rust, ns | port, unvalidated | Rust's `validate` and move | port, checked | unvalidated over Rust | checked over `validate` and move |"
+    );
     println!("|---|---|---|---|---|---|---|---|");
     for kind in Kind::ALL {
         for (tips, times) in [(16, 4000), (101, 2000), (2048, 500)] {
@@ -36,7 +38,8 @@ fn ways(kind: Kind, tips: usize, times: usize) -> Vec<Way<'static>> {
 
 pub fn rust_tree(sample: &Sample) -> reference::tree::Tree {
     let pair = |node: usize| (node >= sample.tips()).then(|| sample.pair(node));
-    reference::tree::Tree::new((0..sample.nodes()).map(pair).collect(), sample.heights.clone()).expect("a tree")
+    reference::tree::Tree::new((0..sample.nodes()).map(pair).collect(), sample.heights.clone())
+        .expect("a tree")
 }
 
 pub fn port_tree(sample: &Sample) -> Tree {

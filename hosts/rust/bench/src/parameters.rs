@@ -18,7 +18,9 @@ pub fn table() {
     if !rove::exports::PARAMETERS {
         return;
     }
-    println!("\n| call | of | Rust, ns | Rust with checks | port | port over Rust | port over Rust with checks |");
+    println!(
+        "\n| call | of | Rust, ns | Rust with checks | port | port over Rust | port over Rust with checks |"
+    );
     println!("|---|---|---|---|---|---|---|");
     show("`scale`", "", 4000, scale(4000));
     show("`fbd_scale`", "", 4000, fbd(4000));
@@ -70,7 +72,13 @@ fn scale(times: usize) -> Vec<Way<'static>> {
 }
 
 fn fbd(times: usize) -> Vec<Way<'static>> {
-    let process = FossilizedBirthDeath { birth: 1.0, death: 0.5, fossil_sampling: 0.25, present_sampling: 0.5, origin: 9.0 };
+    let process = FossilizedBirthDeath {
+        birth: 1.0,
+        death: 0.5,
+        fossil_sampling: 0.25,
+        present_sampling: 0.5,
+        origin: 9.0,
+    };
     let priors = ProcessPriors { birth_rate_mean: Some(1.0), ..Default::default() };
     let rust = |(process, priors, random): &mut (FossilizedBirthDeath, ProcessPriors, Random)| {
         black_box(scripted::propose_process(*priors, Move::FbdBirthScale, process, 1.0, 0.75, random));
@@ -105,7 +113,14 @@ fn branch_rate(count: usize, times: usize) -> Vec<Way<'static>> {
         let clock = given.0.clock.as_ref().expect("a clock");
         black_box(RelaxedClock::new(clock.sigma(), clock.rates().to_vec()).is_ok());
         let mut none = SpeciationState::Yule { birth_rate: 1.0 };
-        black_box(scripted::propose_parameter(Move::BranchRateScale, &mut none, &mut given.0, 1.0, 0.75, &mut given.1));
+        black_box(scripted::propose_parameter(
+            Move::BranchRateScale,
+            &mut none,
+            &mut given.0,
+            1.0,
+            0.75,
+            &mut given.1,
+        ));
     };
     let port = |(clock, generator): &mut (Clock, Generator)| {
         black_box(log(rove::branch_rate_scale(Some(clock), 0.75, generator, 65_535)));
@@ -134,7 +149,8 @@ fn dated(tips: usize, times: usize, age: bool) -> Vec<Way<'static>> {
     let maxima: Vec<f64> = (0..tips).map(|tip| sample.heights[usize::from(parents[tip])] / 2.0).collect();
     let minima: Vec<f64> = maxima.iter().map(|x| x / 2.0).collect();
     let origin = sample.heights[sample.root()] * 2.0;
-    let process = FossilizedBirthDeath { birth: 1.0, death: 0.5, fossil_sampling: 0.25, present_sampling: 0.5, origin };
+    let process =
+        FossilizedBirthDeath { birth: 1.0, death: 0.5, fossil_sampling: 0.25, present_sampling: 0.5, origin };
     let ages = minima.iter().zip(&maxima).map(|(&minimum, &maximum)| TipAge { minimum, maximum }).collect();
     let dating = Dating { process, process_priors: None, ages, clock_rate: 1.0, clock_prior_mean: None };
     let (rust, port) = (rust_tree(&sample), port_tree(&sample));
@@ -145,7 +161,9 @@ fn dated(tips: usize, times: usize, age: bool) -> Vec<Way<'static>> {
     };
     type Ours = (rove::Tree, Ages, Process, Generator);
     if age {
-        let rust = |(tree, dating, random): &mut Given| drop(black_box(scripted::propose_age(dating, tree, random)));
+        let rust = |(tree, dating, random): &mut Given| {
+            black_box(scripted::propose_age(dating, tree, random));
+        };
         let checked = |(tree, dating, random): &mut Given| {
             black_box(tree.validate().is_ok() && dating.validate(tree.tips()).is_ok());
             black_box(scripted::propose_age(dating, tree, random));
@@ -161,7 +179,9 @@ fn dated(tips: usize, times: usize, age: bool) -> Vec<Way<'static>> {
             black_box(tree.validate().is_ok() && dating.validate(tree.tips()).is_ok());
             scripted::initialize(dating, black_box(tree));
         };
-        let port = |(tree, ages, process, _): &mut Ours| drop(black_box(tree.initialize(ages, process)));
+        let port = |(tree, ages, process, _): &mut Ours| {
+            black_box(tree.initialize(ages, process)).expect("in order");
+        };
         vec![way(times, made.clone(), rust), way(times, made, checked), way(times, ours, port)]
     }
 }
@@ -169,12 +189,16 @@ fn dated(tips: usize, times: usize, age: bool) -> Vec<Way<'static>> {
 fn yule(tips: usize, times: usize) -> Vec<Way<'static>> {
     let sample = Sample::plain(&mut Chance::new(7), tips);
     let (rust, port) = (rust_tree(&sample), port_tree(&sample));
-    let density = |tree: &mut Tree| drop(black_box(scripted::speciation::yule_log_density(black_box(tree), 0.5)));
+    let density = |tree: &mut Tree| {
+        black_box(scripted::speciation::yule_log_density(black_box(tree), 0.5));
+    };
     let checked = |tree: &mut Tree| {
         black_box(tree.validate().is_ok());
         black_box(scripted::speciation::yule_log_density(black_box(tree), 0.5));
     };
-    let ours = |tree: &mut rove::Tree| drop(black_box(tree.yule_log_density(0.5).map(rove::Density::ln)));
+    let ours = |tree: &mut rove::Tree| {
+        black_box(tree.yule_log_density(0.5).map(rove::Density::ln)).expect("a tree");
+    };
     let also = rust.clone();
     vec![
         way(times, move || rust.clone(), density),

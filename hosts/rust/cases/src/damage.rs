@@ -5,12 +5,46 @@ use crate::statefile::LONGEST;
 
 /// Values that stand at the ends of what a line takes, or beside it.
 const VALUES: [&[u8]; 40] = [
-    b"", b"0", b"00", b"01", b"1", b"2", b"+1", b"-1", b" 1", b"1 ", b"9", b"10", b"1e3", b"0x1",
-    b"65534", b"65535", b"65536", b"065535", b"99999", b"2047", b"2048", b"2049", b"2297",
-    b"4294967295", b"4294967296", b"9999999999", b"99999999999", b"18446744073709551615",
-    b"18446744073709551616", b"0000000000000000", b"8000000000000000", b"7ff0000000000000",
-    b"7ff8000000000001", b"fff0000000000000", b"3FF0000000000000", b"3ff000000000000",
-    b"3ff00000000000000", b"3ff000000000000g", b"nodeheight", b"TipAge",
+    b"",
+    b"0",
+    b"00",
+    b"01",
+    b"1",
+    b"2",
+    b"+1",
+    b"-1",
+    b" 1",
+    b"1 ",
+    b"9",
+    b"10",
+    b"1e3",
+    b"0x1",
+    b"65534",
+    b"65535",
+    b"65536",
+    b"065535",
+    b"99999",
+    b"2047",
+    b"2048",
+    b"2049",
+    b"2297",
+    b"4294967295",
+    b"4294967296",
+    b"9999999999",
+    b"99999999999",
+    b"18446744073709551615",
+    b"18446744073709551616",
+    b"0000000000000000",
+    b"8000000000000000",
+    b"7ff0000000000000",
+    b"7ff8000000000001",
+    b"fff0000000000000",
+    b"3FF0000000000000",
+    b"3ff000000000000",
+    b"3ff00000000000000",
+    b"3ff000000000000g",
+    b"nodeheight",
+    b"TipAge",
 ];
 
 /// The bytes with one to three damages; at times they come out as they were.
@@ -40,7 +74,9 @@ fn damage(chance: &mut Chance, bytes: &mut Vec<u8>) {
         6 => {
             bytes.pop();
         }
-        7 => bytes.extend_from_slice(chance.pick(&[b"\n" as &[u8], b"0", b"height=0000000000000000\n", b"\0"])),
+        7 => {
+            bytes.extend_from_slice(chance.pick(&[b"\n" as &[u8], b"0", b"height=0000000000000000\n", b"\0"]))
+        }
         8 => lines(chance, bytes, |chance, lines, at| {
             let other = chance.below(lines.len());
             lines.swap(at, other);
@@ -49,7 +85,7 @@ fn damage(chance: &mut Chance, bytes: &mut Vec<u8>) {
             lines.remove(at);
         }),
         10 => lines(chance, bytes, |_, lines, at| lines.insert(at, lines[at].clone())),
-        11 | 12 => lines(chance, bytes, value),
+        11 | 12 => lines(chance, bytes, |chance, lines, at| value(chance, &mut lines[at])),
         _ => longer(chance, bytes),
     }
 }
@@ -64,8 +100,7 @@ fn lines(chance: &mut Chance, bytes: &mut Vec<u8>, change: fn(&mut Chance, &mut 
 }
 
 /// Another value for a line, or for one of its parts.
-fn value(chance: &mut Chance, lines: &mut Vec<Vec<u8>>, at: usize) {
-    let line = &mut lines[at];
+fn value(chance: &mut Chance, line: &mut Vec<u8>) {
     let from = line.iter().position(|&byte| byte == b'=').map_or(0, |place| place + 1);
     let commas: Vec<usize> = (from..line.len()).filter(|&i| line[i] == b',').collect();
     let part = chance.below(commas.len() + 1);

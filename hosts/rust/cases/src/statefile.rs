@@ -95,12 +95,10 @@ impl StateFile {
         let draws = lines.take("draws", |text| decimal(text, u32::MAX.into()))?;
         let state = lines.take("state", words)?;
         let kind = lines.take("move", kind)?;
-        let node = lines.take("node", |text| {
-            decimal(text, 65_535).filter(|&node| node == 0 || kind.uses_node())
-        })?;
-        let tuning = lines.take("tuning", |text| {
-            hexadecimal(text).filter(|&bits| bits == 0 || kind.uses_tuning())
-        })?;
+        let node =
+            lines.take("node", |text| decimal(text, 65_535).filter(|&node| node == 0 || kind.uses_node()))?;
+        let tuning =
+            lines.take("tuning", |text| hexadecimal(text).filter(|&bits| bits == 0 || kind.uses_tuning()))?;
         let tips = lines.take("tips", |text| decimal(text, u32::MAX.into()))?;
         let mut pairs = Vec::new();
         for _ in 1..tips {

@@ -97,7 +97,14 @@ fn heights(tree: &scripted::tree::Tree) -> Vec<f64> {
 }
 
 /// That a call left these heights and was answered so; otherwise all that it was given.
-fn left(call: &Called, tree: &Tree, ages: &[TipAge], lent: &[f64], expected: &[f64], answer: Compared<&'static str>) -> Compared<&'static str> {
+fn left(
+    call: &Called,
+    tree: &Tree,
+    ages: &[TipAge],
+    lent: &[f64],
+    expected: &[f64],
+    answer: Compared<&'static str>,
+) -> Compared<&'static str> {
     let told = |fault| format!("{}, ages {ages:x?}{fault}\nheights afterwards: {}", shown(tree), bits(lent));
     if !same_floats(lent, expected) {
         return Err(told(format!(", answer {}, expected heights {}", call.code, bits(expected))));
@@ -217,8 +224,13 @@ fn density(call: &Called, tree: &Tree) -> Compared<&'static str> {
     let log = reference::speciation::yule_log_density(&rust, rate);
     if log == f64::NEG_INFINITY && call.code == 1 {
         let words = answered(1, 0, 0, 0, 0);
-        let vanishes = !(rate.is_finite() && rate > 0.0) || tree.heights[..tree.tips()].iter().any(|&x| x != 0.0);
-        return if vanishes { call.is(1, &words).map(|()| "minus infinity") } else { Err(", a finite density".into()) };
+        let vanishes =
+            !(rate.is_finite() && rate > 0.0) || tree.heights[..tree.tips()].iter().any(|&x| x != 0.0);
+        return if vanishes {
+            call.is(1, &words).map(|()| "minus infinity")
+        } else {
+            Err(", a finite density".into())
+        };
     }
     let total = tree.heights[tree.tips()..].iter().sum::<f64>() + tree.heights[tree.root];
     let product = rate * (total + 0.0);
@@ -239,7 +251,8 @@ fn marked(chance: &mut Chance) -> (Tree, Vec<u8>, Record) {
     let tree = wrong_tree(chance);
     let tips = if chance.once_in(16) { chance.below(8) } else { tree.nodes().div_ceil(2) };
     let few = chance.pick(&[1, 2, 2, 3, 1000]);
-    let mut members: Vec<u8> = (0..tips).map(|_| if chance.once_in(few) { chance.pick(&[1, 2, 255]) } else { 0 }).collect();
+    let mut members: Vec<u8> =
+        (0..tips).map(|_| if chance.once_in(few) { chance.pick(&[1, 2, 255]) } else { 0 }).collect();
     if let (Ok(rust), true) = (judged(&tree), chance.once_in(2)) {
         let clade = chance.below(rust.nodes());
         for (tip, mark) in members.iter_mut().enumerate() {
@@ -264,7 +277,11 @@ fn is_below(tree: &reference::tree::Tree, tip: usize, clade: usize) -> bool {
 
 /// The Rust's tree, where there is one mark for each tip.
 fn with_marks(tree: &Tree, members: &[u8]) -> Result<reference::tree::Tree, Refusal> {
-    if members.len() == tree.nodes().div_ceil(2) { judged(tree) } else { Err(Refusal::Size(tree.nodes() as u64)) }
+    if members.len() == tree.nodes().div_ceil(2) {
+        judged(tree)
+    } else {
+        Err(Refusal::Size(tree.nodes() as u64))
+    }
 }
 
 pub fn is_monophyletic(chance: &mut Chance) -> Compared<&'static str> {
@@ -316,7 +333,8 @@ fn thousandths(height: Option<f64>) -> Result<u64, Refusal> {
     let height = height.filter(|&height| height < limit).ok_or(Refusal::Parameter(0))?;
     let bits = height.to_bits() & (u64::MAX >> 1);
     let (exponent, fraction) = (bits >> 52, bits & ((1 << 52) - 1));
-    let (significand, shift) = if exponent == 0 { (fraction, 1074) } else { (fraction | 1 << 52, 1075 - exponent) };
+    let (significand, shift) =
+        if exponent == 0 { (fraction, 1074) } else { (fraction | 1 << 52, 1075 - exponent) };
     let scaled = u128::from(significand) * 1000;
     Ok(scaled.checked_shr(shift as u32).unwrap_or(0) as u64)
 }

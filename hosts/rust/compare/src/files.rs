@@ -31,8 +31,8 @@ pub fn compare(count: u64, seed: u64) -> Compared<Tally> {
     let mut buffer = vec![0; LONGEST_ANSWER];
     while tally.total() < count {
         let file = case(&mut chance)?;
-        let expected = oracle::answer(&file)
-            .map_err(|fault| format!("{fault}\nfile:\n{}", file.escape_ascii()))?;
+        let expected =
+            oracle::answer(&file).map_err(|fault| format!("{fault}\nfile:\n{}", file.escape_ascii()))?;
         let length = exports::rove_answer(&file, &mut buffer);
         if buffer[..length] != expected {
             return Err(difference(&file, &expected, &buffer[..length]));
@@ -43,8 +43,11 @@ pub fn compare(count: u64, seed: u64) -> Compared<Tally> {
 }
 
 fn difference(file: &[u8], expected: &[u8], given: &[u8]) -> String {
-    let [file, expected, given] = [file, expected, given].map(|text| text.escape_ascii().to_string().replace("\\n", "\n"));
-    format!("the answers to a state file differ\nfile:\n{file}\nthe Rust's answer:\n{expected}\nthe port's answer:\n{given}")
+    let [file, expected, given] =
+        [file, expected, given].map(|text| text.escape_ascii().to_string().replace("\\n", "\n"));
+    format!(
+        "the answers to a state file differ\nfile:\n{file}\nthe Rust's answer:\n{expected}\nthe port's answer:\n{given}"
+    )
 }
 
 /// The move that a file names; "no move" where that line is not to be found.
@@ -229,7 +232,8 @@ fn odd_size(chance: &mut Chance) -> Vec<u8> {
         kind,
         node: 0,
         tuning: if kind.uses_tuning() { 0.5f64.to_bits() } else { 0 },
-        tips: chance.pick(&[tips, tips, tips, tips, tips + 1, usize::max(tips, 1) - 1, u32::MAX as usize]) as u64,
+        tips: chance.pick(&[tips, tips, tips, tips, tips + 1, usize::max(tips, 1) - 1, u32::MAX as usize])
+            as u64,
         pairs: vec![(0, 1); pairs],
         heights: vec![0; heights],
     };

@@ -1,6 +1,7 @@
 //! Runs the port beside the Rust, in one process and by bits, and stops at the first difference, which it prints in full.
 //!
-//!     compare files N | moves N | trees N | parameters N | all [--files N] [--moves N] [--trees N] [--parameters N]
+//!     compare files N | moves N | trees N | parameters N
+//!     compare all [--files N] [--moves N] [--trees N] [--parameters N]
 //!     compare replay FILE
 //!
 //! `--seed S` gives other cases.
@@ -21,12 +22,17 @@ use oracle::Compared;
 use std::process::ExitCode;
 use tally::Tally;
 
-/// The parts, with the function that compares so many cases from a seed.
-const PARTS: [(&str, fn(u64, u64) -> Compared<Tally>); 4] = [
-    ("files", files::compare),
-    ("moves", moves::compare),
-    ("trees", trees::compare),
-    ("parameters", parameters::compare),
+const USAGE: &str = "usage: compare files|moves|trees|parameters N, compare all [--files N] [--moves N] [--trees N] \
+                     [--parameters N], or compare replay FILE; each with [--seed S]";
+
+/// A part: its name, whether the archives have it, and the function that compares so many cases from a seed.
+type Part = (&'static str, bool, fn(u64, u64) -> Compared<Tally>);
+
+const PARTS: [Part; 4] = [
+    ("files", rove::exports::ANSWER, files::compare),
+    ("moves", rove::exports::MOVES, moves::compare),
+    ("trees", rove::exports::MOVES, trees::compare),
+    ("parameters", rove::exports::PARAMETERS, parameters::compare),
 ];
 
 fn main() -> ExitCode {
@@ -41,22 +47,36 @@ fn main() -> ExitCode {
 }
 
 fn run(words: &[String]) -> Compared<()> {
-    let number = |text: &String| text.parse::<u64>().map_err(|_| format!("{text} is no number"));
-    let option = |name: String| words.iter().position(|word| *word == name).map(|at| words.get(at + 1).ok_or(name)).transpose();
-    let seed = option("--seed".into())?.map(number).transpose()?.unwrap_or(1);
-    let what = words.first().map_or("", String::as_str);
+    let what = words.first().ok_or(USAGE)?.as_str();
+    let seed = option(words, "--seed")?.unwrap_or(1);
     if what == "replay" {
-        println!("{}", replay::write(words.get(1).ok_or("to which file?")?, seed)?);
+        println!("{}", replay::write(words.get(1).ok_or(USAGE)?, seed)?);
+        return Ok(());
     }
-    for (part, compare) in PARTS {
+    if what != "all" && !PARTS.iter().any(|part| part.0 == what) {
+        return Err(USAGE.into());
+    }
+    for (part, here, compare) in PARTS {
         let count = match what {
-            "all" => option(format!("--{part}"))?.map(number).transpose()?,
-            _ if what == part => Some(number(words.get(1).ok_or("how many?")?)?),
+            "all" => option(words, &format!("--{part}"))?,
+            _ if what == part => Some(number(words.get(1))?),
             _ => None,
         };
-        if let Some(count) = count {
-            println!("{}", compare(count, seed)?);
+        match count {
+            Some(_) if !here => println!("{part}: the archives do not have this part yet"),
+            Some(count) => println!("{}", compare(count, seed)?),
+            None => {}
         }
     }
     Ok(())
+}
+
+fn number(word: Option<&String>) -> Compared<u64> {
+    word.and_then(|word| word.parse().ok()).ok_or(USAGE.into())
+}
+
+/// The number after an option, where it is given.
+fn option(words: &[String], name: &str) -> Compared<Option<u64>> {
+    let at = words.iter().position(|word| word == name);
+    at.map(|at| number(words.get(at + 1))).transpose()
 }

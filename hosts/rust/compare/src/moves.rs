@@ -3,7 +3,10 @@
 
 use crate::files;
 use crate::oracle::{self, Call, Compared, Outcome, logarithm, rust_move};
-use crate::plain::{children, draws, generator, plain, port_tree, random, rust_tree, same_as_rust, same_float, same_tree, shown};
+use crate::plain::{
+    children, draws, generator, plain, port_tree, random, rust_tree, same_as_rust, same_float, same_tree,
+    shown,
+};
 use crate::port::{self, Way};
 use crate::ratio::Change;
 use crate::tally::{Tally, refused};
@@ -14,25 +17,25 @@ use rove::{Answer, Generator, Refusal, Tree};
 /// More than any call makes.
 const MANY: u64 = 1 << 20;
 
-/// So many moves in chains, and a call on a damaged tree after every eighth.
+/// So many moves in chains; beside them the same calls with a draw too few, and about as many single calls as an eighth.
 pub fn compare(count: u64, seed: u64) -> Compared<Tally> {
     let mut chance = Chance::new(seed);
     let mut tally = Tally::new("moves", count);
     while tally.total() < count {
         let tips = shapes::tips(&mut chance);
         let mut chain = Chain::new(&mut chance, tips);
-        for step in 0..chance.pick(&[1, 10, 100, 400]) {
+        for _ in 0..chance.pick(&[1, 10, 100, 400]) {
             let kind = chance.pick(&Kind::ALL);
             let answer = chain.step(&mut chance, kind)?;
             tally.count(kind.name(), answer);
-            if step % 8 == 7 {
-                let (kind, answer) = damaged(&mut chance)?;
-                tally.count(kind, answer);
+            if chance.once_in(8) {
+                tally.also("single calls", single(&mut chance)?, 1);
             }
             if tally.total() >= count || chain.overtaken(&mut chance)? {
                 break;
             }
         }
+        tally.also("one draw short", "6", chain.short);
     }
     Ok(tally)
 }
@@ -43,6 +46,8 @@ struct Chain {
     random: Random,
     port: Tree,
     before: Tree,
+    /// The calls that were made with a draw too few.
+    short: u64,
 }
 
 /// What a move on the Rust's side came to.
@@ -62,7 +67,7 @@ impl Chain {
             }
         };
         let port = port_tree(&sample);
-        Self { rust: rust_tree(&sample), random: random(state), before: port.clone(), port }
+        Self { rust: rust_tree(&sample), random: random(state), before: port.clone(), port, short: 0 }
     }
 
     /// One move on both sides.
@@ -101,10 +106,12 @@ impl Chain {
             if short != Err(Refusal::Allowance(most - 1)) || kept != state {
                 return Err(self.report("slide_start, one draw short", &format!("{short:?}")));
             }
+            self.short += 1;
         }
         made.draws -= most;
         let node = started.node as u64;
-        let call = Call { kind: Kind::SubtreeSlide, state: next, allowance: 0, node, tuning: started.step(size) };
+        let call =
+            Call { kind: Kind::SubtreeSlide, state: next, allowance: 0, node, tuning: started.step(size) };
         self.beside(chance, call, &made)
     }
 
@@ -129,6 +136,7 @@ impl Chain {
             if !right || kept.0 != call.state || !same_tree(&self.port, &self.before) {
                 return Err(self.report(&format!("{:?}, one draw short", call.kind), &format!("{answer:?}")));
             }
+            self.short += 1;
         }
         call.allowance = chance.pick(&[made.draws.max(1), made.draws + 1, 65_535, 65_535]);
         let (answer, given) = port::call(chance, way, &call, &mut self.port)?;
@@ -142,7 +150,10 @@ impl Chain {
                 call.node,
                 call.tuning.to_bits()
             );
-            self.report(&format!("{:?}: {what}; {told}", call.kind), &format!("{answer:?}, generator {:x?}", given.0))
+            self.report(
+                &format!("{:?}: {what}; {told}", call.kind),
+                &format!("{answer:?}, generator {:x?}", given.0),
+            )
         })
     }
 
@@ -168,7 +179,8 @@ impl Chain {
         expected: Option<Refusal>,
     ) -> Result<&'static str, &'static str> {
         if let Some(why) = expected {
-            if answer != Answer::Refused(why) || given.0 != call.state || !same_tree(&self.port, &self.before) {
+            if answer != Answer::Refused(why) || given.0 != call.state || !same_tree(&self.port, &self.before)
+            {
                 return Err("this should be refused and change nothing");
             }
             self.restore(call.state);
@@ -182,7 +194,9 @@ impl Chain {
         }
         match (answer, made.log) {
             (Answer::Declined(draws), None) if draws == made.draws => Ok("declined"),
-            (Answer::Moved(moved), Some(log)) if moved.draws == made.draws && moved.root == self.rust.root() => {
+            (Answer::Moved(moved), Some(log))
+                if moved.draws == made.draws && moved.root == self.rust.root() =>
+            {
                 if !same_float(log, logarithm(moved.ratio, call.kind, call.tuning)) {
                     return Err("the logarithms differ");
                 }
@@ -197,7 +211,14 @@ impl Chain {
 
     fn change<'a>(&'a self, call: &Call) -> Change<'a> {
         let (before, after) = (&self.before, &self.port);
-        Change { kind: call.kind, state: call.state, node: call.node as usize, tuning: call.tuning, before, after }
+        Change {
+            kind: call.kind,
+            state: call.state,
+            node: call.node as usize,
+            tuning: call.tuning,
+            before,
+            after,
+        }
     }
 
     /// Puts the Rust's side back to where the port's is.
@@ -209,7 +230,8 @@ impl Chain {
 
     /// Whether a scale has left a dated tip above its parent; the next call is then refused with 4.
     fn overtaken(&self, chance: &mut Chance) -> Compared<bool> {
-        let above = |&tip: &usize| self.rust.parent(tip).is_some_and(|p| self.rust.height(tip) > self.rust.height(p));
+        let above =
+            |&tip: &usize| self.rust.parent(tip).is_some_and(|p| self.rust.height(tip) > self.rust.height(p));
         let Some(tip) = (0..self.rust.tips()).find(above) else {
             return Ok(false);
         };
@@ -239,7 +261,7 @@ impl Chain {
 }
 
 /// A call on a tree that may be damaged, with parameters that may be past their limits.
-fn damaged(chance: &mut Chance) -> Compared<(&'static str, &'static str)> {
+fn single(chance: &mut Chance) -> Compared<&'static str> {
     let mut tree = wrong_tree(chance);
     let call = wrong_call(chance, &tree);
     let before = tree.clone();
@@ -261,10 +283,17 @@ fn damaged(chance: &mut Chance) -> Compared<(&'static str, &'static str)> {
         let expected = String::from_utf8(oracle::printed(&expected)).expect("text");
         return Err(format!(
             "a single call differs: {:?}, state {:x?}, allowance {}, node {}, tuning {:016x}\nbefore: {}\nexpected:\n{expected}the port: {answer:?}, generator {:x?}, {}",
-            call.kind, call.state, call.allowance, call.node, call.tuning.to_bits(), shown(&before), given.0, shown(&tree)
+            call.kind,
+            call.state,
+            call.allowance,
+            call.node,
+            call.tuning.to_bits(),
+            shown(&before),
+            given.0,
+            shown(&tree)
         ));
     }
-    Ok((call.kind.name(), word_of(answer)))
+    Ok(word_of(answer))
 }
 
 fn word_of(answer: Answer) -> &'static str {
@@ -327,7 +356,11 @@ fn wrong_call(chance: &mut Chance, tree: &Tree) -> Call {
     let kind = chance.pick(&Kind::ALL);
     let nodes = tree.nodes() as u64;
     let any = if nodes == 0 { 0 } else { chance.below(nodes as usize) as u64 };
-    let node = if chance.once_in(6) { chance.pick(&[nodes, tree.root as u64, 65_535, u64::MAX, 1 << 32]) } else { any };
+    let node = if chance.once_in(6) {
+        chance.pick(&[nodes, tree.root as u64, 65_535, u64::MAX, 1 << 32])
+    } else {
+        any
+    };
     let tuning = match (kind, chance.below(6)) {
         (_, 0) => chance.float(),
         (Kind::SubtreeSlide, _) => 2.0 * chance.unit() - 1.0,

@@ -1,11 +1,11 @@
 //! The calls on parameters: scales, the clock, the process and its priors.
 
+use crate::dating;
 use crate::oracle::{Compared, allowed, drawn, tuned, unspent};
 use crate::plain::{bits, random, same_float, same_floats};
 use crate::port::noisy;
 use crate::tally::Tally;
 use crate::trees::{Called, answered, called, stepped};
-use crate::dating;
 use cases::Chance;
 use rove::{Generator, Record, Refusal, exports, word};
 use scripted::dating::{FossilizedBirthDeath, ProcessPriors};
@@ -111,7 +111,11 @@ enum Ended {
 
 /// The Rust's proposal within the allowance, where the parameters are within their limits. The factor is made of the last
 /// draw.
-fn proposed(record: &Record, limits: bool, run: impl FnOnce(f64, &mut Random) -> Option<f64>) -> Compared<Ended> {
+fn proposed(
+    record: &Record,
+    limits: bool,
+    run: impl FnOnce(f64, &mut Random) -> Option<f64>,
+) -> Compared<Ended> {
     let (Generator(from), allowance) = (record.generator(), record.0[word::ALLOWANCE]);
     let tuning = record.float(word::TUNING);
     if !(limits && tuned(tuning) && allowed(allowance)) {
@@ -131,7 +135,10 @@ fn proposed(record: &Record, limits: bool, run: impl FnOnce(f64, &mut Random) ->
     if same_float(log, -factor.ln()) {
         return Ok(Ended::Scaled { draws, state, factor });
     }
-    Err(format!("the Rust's logarithm is {log:e}, that of document 01's factor {factor:e} is {:e}", -factor.ln()))
+    Err(format!(
+        "the Rust's logarithm is {log:e}, that of document 01's factor {factor:e} is {:e}",
+        -factor.ln()
+    ))
 }
 
 /// The uniform that is the last of so many draws.
@@ -194,11 +201,14 @@ fn speciation_scale(chance: &mut Chance, kind: Move) -> Compared<&'static str> {
     for place in 14..17 {
         record.set_float(place, value(chance));
     }
-    let call = called(record, match kind {
-        Move::BirthDifferenceScale => exports::rove_birth_difference_scale,
-        Move::BirthRateScale => exports::rove_birth_rate_scale,
-        _ => exports::rove_relative_death_scale,
-    });
+    let call = called(
+        record,
+        match kind {
+            Move::BirthDifferenceScale => exports::rove_birth_difference_scale,
+            Move::BirthRateScale => exports::rove_birth_rate_scale,
+            _ => exports::rove_relative_death_scale,
+        },
+    );
     let [first, second, upper] = [14, 15, 16].map(|place| call.before.float(place));
     let mut speciation = if call.before.0[13] == 0 {
         SpeciationState::Yule { birth_rate: first }
@@ -276,7 +286,7 @@ fn set_priors(chance: &mut Chance, record: &mut Record) {
         record.set(place, if none { 0 } else { flag(chance) });
         record.set_float(place + 1, if wrong { value(chance) } else { chance.unit() + 0.001 });
     }
-    let edge = chance.pick(&[0.001, 1000.0, 0.000_999_999_999_999_999_9, 1000.000_000_000_000_1, 1.0]);
+    let edge = chance.pick(&[0.001, 1000.0, 0.000_999_999_999_999_999_9, 1_000.000_000_000_000_1, 1.0]);
     record.set_float(26, if wrong { edge } else { chance.unit() + 0.001 });
 }
 
@@ -302,7 +312,8 @@ fn fbd_scale(chance: &mut Chance) -> Compared<&'static str> {
     let ended = proposed(&call.before, limits, |tuning, random| {
         scripted::propose_process(priors, kind.expect("a field"), &mut process, offset, tuning, random)
     })?;
-    let fields = [process.birth, process.death, process.fossil_sampling, process.present_sampling, process.origin];
+    let fields =
+        [process.birth, process.death, process.fossil_sampling, process.present_sampling, process.origin];
     let changed: Vec<(usize, u64)> = fields.iter().enumerate().map(|(i, x)| (13 + i, x.to_bits())).collect();
     compared(&call, ended, &changed)
 }
@@ -403,7 +414,11 @@ fn set_rate(chance: &mut Chance) -> Compared<&'static str> {
     let index = call.before.0[word::NODE];
     let clock = RelaxedClock::new(call.before.float(14), rates.clone()).ok();
     let Some(mut clock) = clock.filter(|_| index < rates.len() as u64) else {
-        return if same_floats(&lent, &rates) { call.is_refused(Refusal::Parameter(0)) } else { Err("rates changed".into()) };
+        return if same_floats(&lent, &rates) {
+            call.is_refused(Refusal::Parameter(0))
+        } else {
+            Err("rates changed".into())
+        };
     };
     let stored = scripted::set_rate(&mut clock, index as usize, call.before.float(15));
     if !same_floats(&lent, clock.rates()) {

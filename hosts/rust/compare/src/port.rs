@@ -79,11 +79,15 @@ fn recorded(unvalidated: bool, kind: Kind, tree: &mut Tree, words: &mut [u64]) -
         (Kind::SubtreeSlide, false) => exports::rove_subtree_slide(pairs, parents, heights, words),
         (Kind::SubtreeSlide, true) => exports::rove_subtree_slide_unvalidated(pairs, parents, heights, words),
         (Kind::NarrowExchange, false) => exports::rove_narrow_exchange(pairs, parents, heights, words),
-        (Kind::NarrowExchange, true) => exports::rove_narrow_exchange_unvalidated(pairs, parents, heights, words),
+        (Kind::NarrowExchange, true) => {
+            exports::rove_narrow_exchange_unvalidated(pairs, parents, heights, words)
+        }
         (Kind::WideExchange, false) => exports::rove_wide_exchange(pairs, parents, heights, words),
         (Kind::WideExchange, true) => exports::rove_wide_exchange_unvalidated(pairs, parents, heights, words),
         (Kind::WilsonBalding, false) => exports::rove_wilson_balding(pairs, parents, heights, words),
-        (Kind::WilsonBalding, true) => exports::rove_wilson_balding_unvalidated(pairs, parents, heights, words),
+        (Kind::WilsonBalding, true) => {
+            exports::rove_wilson_balding_unvalidated(pairs, parents, heights, words)
+        }
         (Kind::RootScale, false) => exports::rove_root_scale(pairs, parents, heights, words),
         (Kind::RootScale, true) => exports::rove_root_scale_unvalidated(pairs, parents, heights, words),
         (Kind::TreeScale, false) => exports::rove_tree_scale(pairs, parents, heights, words),
@@ -140,5 +144,8 @@ pub fn kept(code: u64, before: &Record, after: &Record, written: &[usize]) -> Co
     if other.is_none() && in_order && answer == code {
         return Ok(());
     }
-    Err(format!("a call that returned {code} has left its record wrong\nbefore: {:x?}\nafter: {:x?}", before.0, after.0))
+    Err(format!(
+        "a call that returned {code} has left its record wrong\nbefore: {:x?}\nafter: {:x?}",
+        before.0, after.0
+    ))
 }

@@ -46,7 +46,9 @@ impl Change<'_> {
             }
         };
         let i = draw(&|node| node != tree.root);
-        let j = draw(&|node| node != i && (node == tree.root || height(tree, parent(tree, node)) > height(tree, i)));
+        let j = draw(&|node| {
+            node != i && (node == tree.root || height(tree, parent(tree, node)) > height(tree, i))
+        });
         let (p, q) = (parent(tree, i), parent(tree, j));
         let new = height(tree, q) - height(tree, i).max(height(tree, j));
         let old = height(tree, parent(tree, p)) - height(tree, i).max(height(tree, sibling(tree, i)));

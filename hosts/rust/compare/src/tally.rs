@@ -19,33 +19,39 @@ impl Tally {
         Self { what, counts: BTreeMap::new(), total: 0, wanted, began: now, told: now }
     }
 
-    /// One more of a kind and an answer.
+    /// One more of those wanted, by its kind and its answer.
     pub fn count(&mut self, kind: &'static str, answer: &'static str) {
-        *self.counts.entry((kind, answer)).or_default() += 1;
+        self.also(kind, answer, 1);
         self.total += 1;
-        if self.total % 1024 == 0 && self.told.elapsed() > Duration::from_secs(10) {
+        if self.total.is_multiple_of(1024) && self.told.elapsed() > Duration::from_secs(10) {
             self.told = Instant::now();
             eprintln!("{}: {} of {}", self.what, self.total, self.wanted);
         }
     }
 
-    pub fn total(&self) -> u64 {
-        self.total
+    /// Others that were compared beside them.
+    pub fn also(&mut self, kind: &'static str, answer: &'static str, count: u64) {
+        *self.counts.entry((kind, answer)).or_default() += count;
     }
 
-    /// How many there are of an answer.
-    pub fn of(&self, answer: &str) -> u64 {
-        self.counts.iter().filter(|(key, _)| key.1 == answer).map(|(_, count)| count).sum()
+    pub fn total(&self) -> u64 {
+        self.total
     }
 }
 
 impl fmt::Display for Tally {
     fn fmt(&self, f: &mut fmt::Formatter<'_>) -> fmt::Result {
-        write!(f, "{}: {} alike in {:.1} s", self.what, self.total, self.began.elapsed().as_secs_f64())?;
+        let all: u64 = self.counts.values().sum();
+        let seconds = self.began.elapsed().as_secs_f64();
+        write!(f, "{}: {} alike", self.what, self.total)?;
+        if all > self.total {
+            write!(f, ", and {} beside them", all - self.total)?;
+        }
+        write!(f, ", in {seconds:.1} s")?;
         let mut last = "";
         for ((kind, answer), count) in &self.counts {
             if *kind != last {
-                write!(f, "; {kind}")?;
+                write!(f, "; {kind}:")?;
                 last = kind;
             }
             write!(f, " {answer} {count}")?;
@@ -56,5 +62,6 @@ impl fmt::Display for Tally {
 
 /// The word for a refusal's number.
 pub fn refused(number: u64) -> &'static str {
-    ["0", "1", "2", "3", "4", "5", "6", "7", "8", "9"].get(number as usize).copied().unwrap_or("?")
+    const WORDS: [&str; 10] = ["0", "1", "2", "3", "4", "5", "6", "7", "8", "9"];
+    WORDS.get(number as usize).copied().unwrap_or("?")
 }

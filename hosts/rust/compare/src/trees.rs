@@ -116,7 +116,20 @@ fn next_u64(chance: &mut Chance) -> Compared<&'static str> {
 fn below(chance: &mut Chance) -> Compared<&'static str> {
     let state = state(chance);
     let any = chance.word();
-    let n = chance.pick(&[0, 1, 2, 3, 4095, 1 << 31, (1 << 32) - 1, 1 << 32, (1 << 32) + 1, u64::MAX, any >> 32, any >> 53]);
+    let n = chance.pick(&[
+        0,
+        1,
+        2,
+        3,
+        4095,
+        1 << 31,
+        (1 << 32) - 1,
+        1 << 32,
+        (1 << 32) + 1,
+        u64::MAX,
+        any >> 32,
+        any >> 53,
+    ]);
     let allowance = chance.pick(&[0, 1, 2, 3, 65_535, 65_535, 65_536, u64::MAX]);
     let mut record = noisy(chance, Generator(state), 0, allowance);
     record.set(word::NODE, n);
@@ -163,7 +176,8 @@ fn made(tree: &Tree) -> Result<reference::tree::Tree, Refusal> {
 fn validate(chance: &mut Chance) -> Compared<&'static str> {
     let tree = wrong_tree(chance);
     let record = noisy(chance, Generator([0; 4]), tree.root, 0);
-    let call = called(record, |words| exports::rove_validate(&tree.pairs, &tree.parents, &tree.heights, words));
+    let call =
+        called(record, |words| exports::rove_validate(&tree.pairs, &tree.parents, &tree.heights, words));
     let result = match judged(&tree) {
         Err(why) => call.is_refused(why),
         Ok(_) => call.is(0, &answered(0, 0, 0, 0, 0)).map(|()| "given"),

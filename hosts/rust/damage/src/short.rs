@@ -45,16 +45,24 @@ const PARAMETERS: &[(&str, Call)] = calls! {
 
 /// The tree of two tips, on which each call would do something.
 pub fn records() -> Result<String, String> {
-    let parts = [(exports::MOVES, MOVES), (exports::UNVALIDATED, UNVALIDATED), (exports::PARAMETERS, PARAMETERS)];
+    let parts =
+        [(exports::MOVES, MOVES), (exports::UNVALIDATED, UNVALIDATED), (exports::PARAMETERS, PARAMETERS)];
     let mut count = 0;
     for &(name, call) in parts.into_iter().filter(|(here, _)| *here).flat_map(|(_, calls)| calls) {
         for length in 0..WORDS {
-            let mut slices = (vec![65_535, 65_535, 65_535, 65_535, 0, 1], vec![2, 2, 65_535], vec![0.0, 0.0, 1.0], vec![1.0, 1.0]);
+            let mut slices = (
+                vec![65_535, 65_535, 65_535, 65_535, 0, 1],
+                vec![2, 2, 65_535],
+                vec![0.0, 0.0, 1.0],
+                vec![1.0, 1.0],
+            );
             let mut words: Vec<u64> = (1..=length as u64).collect();
             let before = (slices.clone(), words.clone());
             let code = call(&mut slices.0, &mut slices.1, &mut slices.2, &mut slices.3, &mut words);
             if code != 3 || (slices, words) != before {
-                return Err(format!("{name} with a record of {length} words returned {code}, or wrote something"));
+                return Err(format!(
+                    "{name} with a record of {length} words returned {code}, or wrote something"
+                ));
             }
             count += 1;
         }

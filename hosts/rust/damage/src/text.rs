@@ -11,14 +11,17 @@ pub fn damage(count: u64, seed: u64) -> Result<String, String> {
     let (mut answered, mut refused) = (0, 0);
     for _ in 0..count {
         let file = bytes(&mut chance);
-        let text = answer(&mut chance, &file).map_err(|fault| format!("{fault}\nfile:\n{}", file.escape_ascii()))?;
+        let text =
+            answer(&mut chance, &file).map_err(|fault| format!("{fault}\nfile:\n{}", file.escape_ascii()))?;
         if text.starts_with(b"answer=refused") {
             refused += 1;
         } else {
             answered += 1;
         }
     }
-    Ok(format!("damage: {count} files, of these {refused} refused and {answered} not; guards and lengths kept"))
+    Ok(format!(
+        "damage: {count} files, of these {refused} refused and {answered} not; guards and lengths kept"
+    ))
 }
 
 /// A file, mostly a damaged one, or any bytes.
@@ -55,14 +58,17 @@ fn answer(chance: &mut Chance, file: &[u8]) -> Result<Vec<u8>, String> {
     let mut long = vec![0; LONGEST_ANSWER];
     let length = exports::rove_answer(file.items(), &mut long);
     let text = long[..length].to_vec();
-    in_form(&text, &StateFile::read(file.items())).map_err(|fault| format!("{fault}: {}", text.escape_ascii()))?;
+    in_form(&text, &StateFile::read(file.items()))
+        .map_err(|fault| format!("{fault}: {}", text.escape_ascii()))?;
     for room in [0, length - 1, length, length + 1, chance.below(length), length + chance.below(50)] {
         let space: Vec<u8> = (0..room).map(|_| chance.word() as u8).collect();
         let mut space = Guarded::new(&space, |word| word as u8, chance);
         let given = exports::rove_answer(file.items(), space.items_mut());
         let expected = if room < length { 0 } else { length };
         if given != expected || !space.kept_but(expected) || space.items()[..expected] != text[..expected] {
-            return Err(format!("an answer of {length} bytes in a slice of {room}: {given} returned, or other bytes written"));
+            return Err(format!(
+                "an answer of {length} bytes in a slice of {room}: {given} returned, or other bytes written"
+            ));
         }
     }
     if file.kept_but(0) { Ok(text) } else { Err("the file was written to".into()) }

@@ -10,7 +10,9 @@ const CALLS: [Unvalidated; 8] = [
     |pairs, parents, heights, words| exports::rove_node_height_unvalidated(pairs, parents, heights, words),
     |pairs, parents, heights, words| exports::rove_slide_start_unvalidated(pairs, parents, heights, words),
     |pairs, parents, heights, words| exports::rove_subtree_slide_unvalidated(pairs, parents, heights, words),
-    |pairs, parents, heights, words| exports::rove_narrow_exchange_unvalidated(pairs, parents, heights, words),
+    |pairs, parents, heights, words| {
+        exports::rove_narrow_exchange_unvalidated(pairs, parents, heights, words)
+    },
     |pairs, parents, heights, words| exports::rove_wide_exchange_unvalidated(pairs, parents, heights, words),
     |pairs, parents, heights, words| exports::rove_wilson_balding_unvalidated(pairs, parents, heights, words),
     |pairs, parents, heights, words| exports::rove_root_scale_unvalidated(pairs, parents, heights, words),
@@ -27,7 +29,10 @@ pub fn damage(count: u64, seed: u64) -> Result<String, String> {
         let code = call(&mut chance)?;
         answers[code as usize % 4] += 1;
     }
-    Ok(format!("damage: {count} unvalidated calls on slices that may be no tree, answers 0 to 2: {:?}; guards kept", &answers[..3]))
+    Ok(format!(
+        "damage: {count} unvalidated calls on slices that may be no tree, answers 0 to 2: {:?}; guards kept",
+        &answers[..3]
+    ))
 }
 
 fn call(chance: &mut Chance) -> Result<u64, String> {
@@ -45,7 +50,11 @@ fn call(chance: &mut Chance) -> Result<u64, String> {
     let mut record = Guarded::new(&words, |word| word, chance);
     let code = call(pairs.items_mut(), parents.items_mut(), heights.items_mut(), record.items_mut());
     let kept = pairs.guards_kept() && parents.guards_kept() && heights.guards_kept() && record.guards_kept();
-    if kept && code < 3 { Ok(code) } else { Err(format!("an unvalidated call returned {code}; guards kept: {kept}")) }
+    if kept && code < 3 {
+        Ok(code)
+    } else {
+        Err(format!("an unvalidated call returned {code}; guards kept: {kept}"))
+    }
 }
 
 /// Slices of a tree with much of it changed.

@@ -14,8 +14,12 @@ fn address_mut<T>(slice: &mut [T]) -> *mut T {
 }
 
 macro_rules! slice {
-    (read $t:ty) => { &[$t] };
-    (lend $t:ty) => { &mut [$t] };
+    (read $t:ty) => {
+        &[$t]
+    };
+    (lend $t:ty) => {
+        &mut [$t]
+    };
 }
 
 macro_rules! pointer {
@@ -24,8 +28,12 @@ macro_rules! pointer {
 }
 
 macro_rules! place {
-    (read $slice:ident) => { address($slice) };
-    (lend $slice:ident) => { address_mut($slice) };
+    (read $slice:ident) => {
+        address($slice)
+    };
+    (lend $slice:ident) => {
+        address_mut($slice)
+    };
 }
 
 /// Functions of the part `cfg`: each takes its slices, which it reads or which are lent to it, and last the record's words.

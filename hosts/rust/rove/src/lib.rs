@@ -13,9 +13,8 @@ pub use answer::{Answer, Moved, Proposal, Ratio, Refusal};
 pub use file::{LONGEST_ANSWER, answer};
 pub use generator::{Drawn, Generator};
 pub use parameters::{
-    Ages, Clock, Density, Field, Priors, Process, Speciation, birth_difference_scale,
-    birth_rate_scale, branch_rate_scale, clock_rate_scale, clock_sigma_scale, fbd_scale,
-    relative_death_scale, scale,
+    Ages, Clock, Density, Field, Priors, Process, Speciation, birth_difference_scale, birth_rate_scale,
+    branch_rate_scale, clock_rate_scale, clock_sigma_scale, fbd_scale, relative_death_scale, scale,
 };
 pub use record::{Record, WORDS, word};
 pub use tree::{Started, Tree};

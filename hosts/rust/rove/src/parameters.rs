@@ -98,8 +98,7 @@ impl Density {
 
 impl Process {
     pub(crate) fn put(&self, record: &mut Record) {
-        let fields =
-            [self.birth, self.death, self.fossil_sampling, self.present_sampling, self.origin];
+        let fields = [self.birth, self.death, self.fossil_sampling, self.present_sampling, self.origin];
         for (i, field) in fields.into_iter().enumerate() {
             record.set_float(PROCESS + i, field);
         }

@@ -77,8 +77,7 @@ impl Record {
     /// Where the record's words are none that a call writes.
     pub fn refusal(&self) -> Refusal {
         let number = self.0[word::KIND];
-        Refusal::of(number, self.0[word::FIRST])
-            .unwrap_or_else(|| panic!("{number} is no refusal's number"))
+        Refusal::of(number, self.0[word::FIRST]).unwrap_or_else(|| panic!("{number} is no refusal's number"))
     }
 
     /// What a call on a tree answered, by the code that it returned.
@@ -88,11 +87,7 @@ impl Record {
     pub fn answer(&self, code: u64) -> Answer {
         let draws = self.0[word::DRAWS];
         match code {
-            0 => Answer::Moved(Moved {
-                root: self.0[word::ROOT] as usize,
-                draws,
-                ratio: self.ratio(),
-            }),
+            0 => Answer::Moved(Moved { root: self.0[word::ROOT] as usize, draws, ratio: self.ratio() }),
             1 => Answer::Declined(draws),
             2 => Answer::Refused(self.refusal()),
             _ => panic!("{code} is no answer's code"),

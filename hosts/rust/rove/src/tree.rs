@@ -82,8 +82,7 @@ impl Tree {
 
     pub fn validate(&self) -> Result<(), Refusal> {
         let mut record = self.record(Generator([0; 4]), 0);
-        let code =
-            exports::rove_validate(&self.pairs, &self.parents, &self.heights, &mut record.0);
+        let code = exports::rove_validate(&self.pairs, &self.parents, &self.heights, &mut record.0);
         record.verdict(code)
     }
 
@@ -91,13 +90,8 @@ impl Tree {
     pub fn postorder(&self) -> Result<Vec<u16>, Refusal> {
         let mut record = self.record(Generator([0; 4]), 0);
         let mut order = vec![0; self.nodes()];
-        let code = exports::rove_postorder(
-            &self.pairs,
-            &self.parents,
-            &self.heights,
-            &mut order,
-            &mut record.0,
-        );
+        let code =
+            exports::rove_postorder(&self.pairs, &self.parents, &self.heights, &mut order, &mut record.0);
         record.verdict(code)?;
         Ok(order)
     }
@@ -127,8 +121,7 @@ impl Tree {
     /// The first call of a slide: its node, and the uniforms of its step.
     pub fn slide_start(&self, generator: &mut Generator, allowance: u64) -> Result<Started, Refusal> {
         let mut record = self.record(*generator, allowance);
-        let code =
-            exports::rove_slide_start(&self.pairs, &self.parents, &self.heights, &mut record.0);
+        let code = exports::rove_slide_start(&self.pairs, &self.parents, &self.heights, &mut record.0);
         started(code, &record, generator)
     }
 
@@ -139,12 +132,8 @@ impl Tree {
         allowance: u64,
     ) -> Result<Started, Refusal> {
         let mut record = self.record(*generator, allowance);
-        let code = exports::rove_slide_start_unvalidated(
-            &self.pairs,
-            &self.parents,
-            &self.heights,
-            &mut record.0,
-        );
+        let code =
+            exports::rove_slide_start_unvalidated(&self.pairs, &self.parents, &self.heights, &mut record.0);
         started(code, &record, generator)
     }
 
@@ -188,12 +177,7 @@ impl Tree {
     pub fn yule_log_density(&self, rate: f64) -> Result<Density, Refusal> {
         let mut record = self.record(Generator([0; 4]), 0);
         record.set_float(word::PARAMETERS, rate);
-        let code = exports::rove_yule_log_density(
-            &self.pairs,
-            &self.parents,
-            &self.heights,
-            &mut record.0,
-        );
+        let code = exports::rove_yule_log_density(&self.pairs, &self.parents, &self.heights, &mut record.0);
         record.verdict(code)?;
         Ok(Density::of(code, &record))
     }
@@ -201,13 +185,8 @@ impl Tree {
     /// Whether some node has exactly the marked tips below it; a mark is a byte other than 0, one for each tip.
     pub fn is_monophyletic(&self, members: &[u8]) -> Result<bool, Refusal> {
         let mut record = self.record(Generator([0; 4]), 0);
-        let code = exports::rove_is_monophyletic(
-            &self.pairs,
-            &self.parents,
-            &self.heights,
-            members,
-            &mut record.0,
-        );
+        let code =
+            exports::rove_is_monophyletic(&self.pairs, &self.parents, &self.heights, members, &mut record.0);
         record.verdict(code)?;
         Ok(record.0[word::FIRST] != 0)
     }
@@ -215,13 +194,7 @@ impl Tree {
     /// The age of the clade of the marked tips, in whole thousandths.
     pub fn clade_age(&self, members: &[u8]) -> Result<u64, Refusal> {
         let mut record = self.record(Generator([0; 4]), 0);
-        let code = exports::rove_clade_age(
-            &self.pairs,
-            &self.parents,
-            &self.heights,
-            members,
-            &mut record.0,
-        );
+        let code = exports::rove_clade_age(&self.pairs, &self.parents, &self.heights, members, &mut record.0);
         record.verdict(code)?;
         Ok(record.0[word::FIRST])
     }
