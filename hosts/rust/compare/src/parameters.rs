@@ -197,7 +197,7 @@ fn clock_rate_scale(chance: &mut Chance) -> Compared<&'static str> {
 
 fn speciation_scale(chance: &mut Chance, kind: Move) -> Compared<&'static str> {
     let mut record = drawing(chance);
-    record.set(13, flag(chance));
+    record.set(13, chance.pick(&[0, 0, 1, u64::MAX]));
     for place in 14..17 {
         record.set_float(place, value(chance));
     }

@@ -7,6 +7,9 @@ use cases::{Chance, Kind, Sample, StateFile, shapes};
 use rove::{LONGEST_ANSWER, exports};
 
 pub fn damage(count: u64, seed: u64) -> Result<String, String> {
+    if !exports::ANSWER {
+        return Ok("damage: no state files yet".into());
+    }
     let mut chance = Chance::new(seed);
     let (mut answered, mut refused) = (0, 0);
     for _ in 0..count {
