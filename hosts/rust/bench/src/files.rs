@@ -1,6 +1,5 @@
 //! The state file: `rove_answer` beside a plain Rust reading, move and printing, written the obvious way.
 
-use crate::moves::rust_tree;
 use crate::rounds::{Way, line, medians};
 use cases::{Chance, Kind, Sample, StateFile};
 use reference::mcmc::Move;
@@ -43,18 +42,17 @@ pub fn table() {
 fn file(tips: usize) -> Vec<u8> {
     let sample = Sample::plain(&mut Chance::new(7), tips);
     let internal = sample.pairs.chunks_exact(2).skip(tips);
-    let file = StateFile {
+    StateFile {
         draws: 9,
         state: [1, 2, 3, 4],
         kind: Kind::RootScale,
         node: 0,
-        tuning: 0.999f64.to_bits(),
+        tuning: 0.999_999f64.to_bits(),
         tips: tips as u64,
         pairs: internal.map(|pair| (pair[0], pair[1])).collect(),
         heights: sample.heights.iter().map(|height| height.to_bits()).collect(),
-    };
-    black_box(rust_tree(&sample));
-    file.write()
+    }
+    .write()
 }
 
 /// The answer of a RootScale that moves.

@@ -12,6 +12,7 @@ use std::fs;
 /// How many cases there are of each move and answer, where they can be met at all.
 const MOVED: usize = 40;
 const DECLINED: usize = 16;
+const LINES: usize = 12;
 const REFUSED: usize = 5;
 
 /// Numbers of tips, small ones often.
@@ -56,6 +57,7 @@ impl Data {
         let wanted = match key.1 {
             "moved" => MOVED,
             "declined" => DECLINED,
+            "9" => LINES,
             _ => REFUSED,
         };
         let count = self.counts.entry(key).or_default();
