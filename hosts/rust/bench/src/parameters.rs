@@ -1,15 +1,15 @@
 //! The calls on parameters: the Rust's alone, with the checks that a caller can make, and the port's.
 
-use crate::moves::port_tree;
+use crate::moves::{port_tree, rust_tree};
 use crate::rounds::{Way, line, medians};
 use cases::{Chance, Sample};
+use reference::dating::{Dating, FossilizedBirthDeath, ProcessPriors, TipAge};
+use reference::mcmc::Move;
+use reference::random::Random;
+use reference::rates::{RateVariation, RelaxedClock};
+use reference::speciation::SpeciationState;
+use reference::tree::Tree;
 use rove::{Ages, Answer, Clock, Field, Generator, Priors, Process, Proposal};
-use scripted::dating::{Dating, FossilizedBirthDeath, ProcessPriors, TipAge};
-use scripted::mcmc::Move;
-use scripted::random::Random;
-use scripted::rates::{RateVariation, RelaxedClock};
-use scripted::speciation::SpeciationState;
-use scripted::tree::Tree;
 use std::hint::black_box;
 
 const STATE: [u64; 4] = [1, 2, 3, 4];
@@ -28,8 +28,8 @@ pub fn table() {
     show("`branch_rate_scale`", "4,094 rates", 200, branch_rate(4094, 200));
     for (tips, times) in [(16, 2000), (101, 500), (2048, 50)] {
         let nodes = format!("{} nodes", 2 * tips - 1);
-        show("`propose_age`", &nodes, times, dated(tips, times, true));
-        show("`initialize`", &nodes, times, dated(tips, times, false));
+        show("`propose_age`", &nodes, times, propose_age(tips, times));
+        show("`initialize`", &nodes, times, initialize(tips, times));
         show("`yule_log_density`", &nodes, times, yule(tips, times));
     }
 }
@@ -47,7 +47,7 @@ fn way<S: 'static>(times: usize, make: impl Fn() -> S + 'static, run: fn(&mut S)
 }
 
 fn random() -> Random {
-    Random::of(STATE, 65_535)
+    reference::from_state(STATE).expect("a state")
 }
 
 fn log(proposal: Proposal) -> Option<f64> {
@@ -59,7 +59,7 @@ fn log(proposal: Proposal) -> Option<f64> {
 
 fn scale(times: usize) -> Vec<Way<'static>> {
     let rust = |(value, random): &mut (f64, Random)| {
-        black_box(scripted::mcmc::scale(value, f64::MAX, 0.75, random));
+        black_box(reference::mcmc::scale(value, f64::MAX, 0.75, random));
     };
     let port = |(value, generator): &mut (f64, Generator)| {
         black_box(log(rove::scale(value, f64::MAX, 0.75, generator, 65_535)));
@@ -81,11 +81,11 @@ fn fbd(times: usize) -> Vec<Way<'static>> {
     };
     let priors = ProcessPriors { birth_rate_mean: Some(1.0), ..Default::default() };
     let rust = |(process, priors, random): &mut (FossilizedBirthDeath, ProcessPriors, Random)| {
-        black_box(scripted::propose_process(*priors, Move::FbdBirthScale, process, 1.0, 0.75, random));
+        black_box(reference::propose_process(*priors, Move::FbdBirthScale, process, 1.0, 0.75, random));
     };
     let checked = |(process, priors, random): &mut (FossilizedBirthDeath, ProcessPriors, Random)| {
         black_box(priors.validate().is_ok() && process.validate().is_ok());
-        black_box(scripted::propose_process(*priors, Move::FbdBirthScale, process, 1.0, 0.75, random));
+        black_box(reference::propose_process(*priors, Move::FbdBirthScale, process, 1.0, 0.75, random));
     };
     let port = |(process, priors, generator): &mut (Process, Priors, Generator)| {
         black_box(log(rove::fbd_scale(Field::Birth, priors, process, 1.0, 0.75, generator, 65_535)));
@@ -104,30 +104,24 @@ fn port_process(process: FossilizedBirthDeath) -> Process {
 }
 
 fn branch_rate(count: usize, times: usize) -> Vec<Way<'static>> {
-    type Given = (RateVariation, Random);
-    let propose = |(rates, random): &mut Given| {
+    type Given = (RateVariation, Tree, Random);
+    fn propose((rates, tree, random): &mut Given) {
         let mut none = SpeciationState::Yule { birth_rate: 1.0 };
-        black_box(scripted::propose_parameter(Move::BranchRateScale, &mut none, rates, 1.0, 0.75, random));
-    };
+        let kind = Move::BranchRateScale;
+        black_box(reference::propose_parameter(kind, tree, &mut none, rates, 1.0, 0.75, random));
+    }
     let checked = |given: &mut Given| {
         let clock = given.0.clock.as_ref().expect("a clock");
         black_box(RelaxedClock::new(clock.sigma(), clock.rates().to_vec()).is_ok());
-        let mut none = SpeciationState::Yule { birth_rate: 1.0 };
-        black_box(scripted::propose_parameter(
-            Move::BranchRateScale,
-            &mut none,
-            &mut given.0,
-            1.0,
-            0.75,
-            &mut given.1,
-        ));
+        propose(given);
     };
     let port = |(clock, generator): &mut (Clock, Generator)| {
         black_box(log(rove::branch_rate_scale(Some(clock), 0.75, generator, 65_535)));
     };
     let made = move || {
         let clock = RelaxedClock::new(0.5, vec![1.0; count]).expect("a clock");
-        (RateVariation { clock: Some(clock), ..Default::default() }, random())
+        let rates = RateVariation { clock: Some(clock), ..Default::default() };
+        (rates, rust_tree(&Sample::plain(&mut Chance::new(7), 2)), random())
     };
     vec![
         way(times, made, propose),
@@ -136,65 +130,79 @@ fn branch_rate(count: usize, times: usize) -> Vec<Way<'static>> {
     ]
 }
 
-fn rust_tree(sample: &Sample) -> Tree {
-    let pair = |node: usize| (node >= sample.tips()).then(|| sample.pair(node));
-    Tree::new((0..sample.nodes()).map(pair).collect(), sample.heights.clone()).expect("a tree")
-}
+/// What the Rust and the port are given with an age table: every tip is between a quarter and a half of its parent's age.
+type Given = (Tree, Dating, Random);
+type Ours = (rove::Tree, Ages, Process, Generator);
 
-/// TipAge, or `initialize`, with every tip between the present and half of its parent's age.
-fn dated(tips: usize, times: usize, age: bool) -> Vec<Way<'static>> {
-    type Given = (Tree, Dating, Random);
+fn rust_dated(tips: usize) -> Given {
     let sample = Sample::plain(&mut Chance::new(7), tips);
     let parents = sample.parents();
-    let maxima: Vec<f64> = (0..tips).map(|tip| sample.heights[usize::from(parents[tip])] / 2.0).collect();
-    let minima: Vec<f64> = maxima.iter().map(|x| x / 2.0).collect();
+    let half = |tip: usize| sample.heights[usize::from(parents[tip])] / 2.0;
+    let ages = (0..tips).map(|tip| TipAge { minimum: half(tip) / 2.0, maximum: half(tip) }).collect();
     let origin = sample.heights[sample.root()] * 2.0;
     let process =
         FossilizedBirthDeath { birth: 1.0, death: 0.5, fossil_sampling: 0.25, present_sampling: 0.5, origin };
-    let ages = minima.iter().zip(&maxima).map(|(&minimum, &maximum)| TipAge { minimum, maximum }).collect();
     let dating = Dating { process, process_priors: None, ages, clock_rate: 1.0, clock_prior_mean: None };
-    let (rust, port) = (rust_tree(&sample), port_tree(&sample));
-    let made = move || (rust.clone(), dating.clone(), random());
-    let ours = move || {
-        let ages = Ages { minima: minima.clone(), maxima: maxima.clone() };
-        (port.clone(), ages, port_process(process), Generator(STATE))
-    };
-    type Ours = (rove::Tree, Ages, Process, Generator);
-    if age {
-        let rust = |(tree, dating, random): &mut Given| {
-            black_box(scripted::propose_age(dating, tree, random));
-        };
-        let checked = |(tree, dating, random): &mut Given| {
-            black_box(tree.validate().is_ok() && dating.validate(tree.tips()).is_ok());
-            black_box(scripted::propose_age(dating, tree, random));
-        };
-        let port = |(tree, ages, process, generator): &mut Ours| {
-            let answer = tree.propose_age(ages, process, generator, 65_535);
-            black_box(matches!(answer, Answer::Moved(_)));
-        };
-        vec![way(times, made.clone(), rust), way(times, made, checked), way(times, ours, port)]
-    } else {
-        let rust = |(tree, dating, _): &mut Given| scripted::initialize(dating, black_box(tree));
-        let checked = |(tree, dating, _): &mut Given| {
-            black_box(tree.validate().is_ok() && dating.validate(tree.tips()).is_ok());
-            scripted::initialize(dating, black_box(tree));
-        };
-        let port = |(tree, ages, process, _): &mut Ours| {
-            black_box(tree.initialize(ages, process)).expect("in order");
-        };
-        vec![way(times, made.clone(), rust), way(times, made, checked), way(times, ours, port)]
+    (rust_tree(&sample), dating, random())
+}
+
+fn port_dated(tips: usize) -> Ours {
+    let sample = Sample::plain(&mut Chance::new(7), tips);
+    let (_, dating, _) = rust_dated(tips);
+    let (minima, maxima) = dating.ages.iter().map(|age| (age.minimum, age.maximum)).unzip();
+    (port_tree(&sample), Ages { minima, maxima }, port_process(dating.process), Generator(STATE))
+}
+
+fn check((tree, dating, _): &Given) {
+    black_box(tree.validate().is_ok() && dating.validate(tree.tips()).is_ok());
+}
+
+fn propose_age(tips: usize, times: usize) -> Vec<Way<'static>> {
+    fn rust((tree, dating, random): &mut Given) {
+        black_box(reference::propose_age(dating, tree, random));
     }
+    let checked = |given: &mut Given| {
+        check(given);
+        rust(given);
+    };
+    let port = |(tree, ages, process, generator): &mut Ours| {
+        let answer = tree.propose_age(ages, process, generator, 65_535);
+        black_box(matches!(answer, Answer::Moved(_)));
+    };
+    vec![
+        way(times, move || rust_dated(tips), rust),
+        way(times, move || rust_dated(tips), checked),
+        way(times, move || port_dated(tips), port),
+    ]
+}
+
+fn initialize(tips: usize, times: usize) -> Vec<Way<'static>> {
+    fn rust((tree, dating, _): &mut Given) {
+        reference::initialize(dating, black_box(tree));
+    }
+    let checked = |given: &mut Given| {
+        check(given);
+        rust(given);
+    };
+    let port = |(tree, ages, process, _): &mut Ours| {
+        black_box(tree.initialize(ages, process)).expect("in order");
+    };
+    vec![
+        way(times, move || rust_dated(tips), rust),
+        way(times, move || rust_dated(tips), checked),
+        way(times, move || port_dated(tips), port),
+    ]
 }
 
 fn yule(tips: usize, times: usize) -> Vec<Way<'static>> {
     let sample = Sample::plain(&mut Chance::new(7), tips);
     let (rust, port) = (rust_tree(&sample), port_tree(&sample));
     let density = |tree: &mut Tree| {
-        black_box(scripted::speciation::yule_log_density(black_box(tree), 0.5));
+        black_box(reference::speciation::yule_log_density(black_box(tree), 0.5));
     };
     let checked = |tree: &mut Tree| {
         black_box(tree.validate().is_ok());
-        black_box(scripted::speciation::yule_log_density(black_box(tree), 0.5));
+        black_box(reference::speciation::yule_log_density(black_box(tree), 0.5));
     };
     let ours = |tree: &mut rove::Tree| {
         black_box(tree.yule_log_density(0.5).map(rove::Density::ln)).expect("a tree");

@@ -1,10 +1,10 @@
 //! The calls on a tree with parameters: `initialize` and TipAge with their age table, Yule, and sets of tips.
 
-use crate::moves::{judged, wrong_tree};
 use crate::oracle::{Compared, allowed, drawn, unspent};
 use crate::parameters::{drawing, process_finite, value};
 use crate::plain::{bits, children, same_float, same_floats, shown};
 use crate::trees::{Called, answered, called, stepped};
+use crate::wrong::{judged, wrong_tree};
 use cases::Chance;
 use rove::{Generator, Record, Refusal, Tree, exports, word};
 use scripted::dating::{Dating, FossilizedBirthDeath, TipAge};

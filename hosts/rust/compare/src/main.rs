@@ -17,6 +17,7 @@ mod ratio;
 mod replay;
 mod tally;
 mod trees;
+mod wrong;
 
 use oracle::Compared;
 use std::process::ExitCode;

@@ -13,6 +13,7 @@ use scripted::mcmc::Move;
 use scripted::random::Random;
 use scripted::rates::{RateVariation, RelaxedClock};
 use scripted::speciation::{BirthDeath, SpeciationState};
+use scripted::tree::Tree;
 
 type Trial = fn(&mut Chance) -> Compared<&'static str>;
 
@@ -182,6 +183,17 @@ fn scale(chance: &mut Chance) -> Compared<&'static str> {
     compared(&call, ended, &[(13, x.to_bits())])
 }
 
+/// A tree for the moves that do not look at it.
+fn least_tree() -> Tree {
+    Tree::new(vec![None, None, Some((0, 1))], vec![0.0, 0.0, 1.0]).expect("the least tree")
+}
+
+/// The Rust's move of rates.
+fn rates_move(kind: Move, rates: &mut RateVariation, tuning: f64, random: &mut Random) -> Option<f64> {
+    let mut none = SpeciationState::Yule { birth_rate: 1.0 };
+    scripted::propose_parameter(kind, &mut least_tree(), &mut none, rates, 1.0, tuning, random)
+}
+
 fn clock_rate_scale(chance: &mut Chance) -> Compared<&'static str> {
     let mut record = drawing(chance);
     set_optional(chance, &mut record, 13);
@@ -189,8 +201,7 @@ fn clock_rate_scale(chance: &mut Chance) -> Compared<&'static str> {
     let mut rates = RateVariation { mean: optional(&call.before, 13), ..Default::default() };
     let limits = rates.mean.is_none_or(f64::is_finite);
     let ended = proposed(&call.before, limits, |tuning, random| {
-        let mut none = SpeciationState::Yule { birth_rate: 1.0 };
-        scripted::propose_parameter(Move::ClockRateScale, &mut none, &mut rates, 1.0, tuning, random)
+        rates_move(Move::ClockRateScale, &mut rates, tuning, random)
     })?;
     compared(&call, ended, &[(14, rates.mean.unwrap_or_default().to_bits())])
 }
@@ -220,7 +231,15 @@ fn speciation_scale(chance: &mut Chance, kind: Move) -> Compared<&'static str> {
     let limits = first.is_finite() && (!two || second.is_finite()) && ends;
     let ended = proposed(&call.before, limits, |tuning, random| {
         let mut none = RateVariation::default();
-        scripted::propose_parameter(kind, &mut speciation, &mut none, upper, tuning, random)
+        scripted::propose_parameter(
+            kind,
+            &mut least_tree(),
+            &mut speciation,
+            &mut none,
+            upper,
+            tuning,
+            random,
+        )
     })?;
     let changed = match speciation {
         SpeciationState::Yule { birth_rate } => vec![(14, birth_rate.to_bits())],
@@ -245,10 +264,8 @@ fn clock_scale(chance: &mut Chance, kind: Move) -> Compared<&'static str> {
     let clock = sigma.map(|sigma| RelaxedClock::new(sigma, given.clone()));
     let limits = !matches!(clock, Some(Err(_)));
     let mut rates = RateVariation { clock: clock.and_then(Result::ok), ..Default::default() };
-    let ended = proposed(&call.before, limits, |tuning, random| {
-        let mut none = SpeciationState::Yule { birth_rate: 1.0 };
-        scripted::propose_parameter(kind, &mut none, &mut rates, 1.0, tuning, random)
-    })?;
+    let ended =
+        proposed(&call.before, limits, |tuning, random| rates_move(kind, &mut rates, tuning, random))?;
     let (sigma, after) = match (&ended, &rates.clock) {
         (Ended::Scaled { .. }, Some(clock)) => (clock.sigma().to_bits(), clock.rates()),
         _ => (call.before.0[14], &given[..]),

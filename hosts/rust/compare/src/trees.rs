@@ -1,10 +1,10 @@
 //! The generator's own calls, and `new`, `validate` and `postorder` on trees that may be damaged.
 
-use crate::moves::{judged, wrong_tree};
 use crate::oracle::{self, Compared, allowed};
 use crate::plain::{children, draws, generator, mark, random, shown};
 use crate::port::noisy;
 use crate::tally::{Tally, refused};
+use crate::wrong::{judged, wrong_tree};
 use cases::Chance;
 use reference::random::Random;
 use rove::{Generator, Record, Refusal, Tree, exports, word};
