@@ -11,7 +11,7 @@ use mir.Val.{Fits}
 use borrow.Author.Tests.{lt-ltb, le-ltb}
 use Rattle.random.specs.declared.Random.{Random}
 use Rattle.random.specs.Generator.{stateOf, fromState}
-use Rattle.record.specs.Record.{wordIn, realIn, generatorIn, allowanceIn, withGenerator}
+use Rattle.record.specs.Record.{wordIn, realIn, generatorIn, rootIn, allowanceIn, givenIn, withGenerator}
 
 -- ---- reading
 
@@ -37,7 +37,11 @@ module _ (words : List ℕ) where
     pub allowance-fits : w ≤ 65535 → Fits w32 w
     allowance-fits h = record { fits = omega arith }
 
-pub ruleset readLaws = (word-missing, real-is, generator-is, allowance-none, allowance-is, allowance-fits)
+  pub given-is : (root : ℕ) (g : Random) (a : ℕ) → root ≡ rootIn words → g ≡ generatorIn words → a ≡ allowanceIn words
+      → record { root = root; random = g; allowance = a } ≡ givenIn words
+  given-is root g a p q r = λ i. record { root = p i; random = q i; allowance = r i }
+
+pub ruleset readLaws = (word-missing, real-is, generator-is, allowance-none, allowance-is, allowance-fits, given-is)
 
 -- ---- writing
 

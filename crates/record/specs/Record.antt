@@ -19,6 +19,7 @@ use Rattle.random.specs.declared.Random.{Random}
 use Rattle.random.specs.Generator.{stateOf, fromState}
 use Rattle.tree.specs.declared.Verdict.{Verdict}
 use Rattle.tree.specs.declared.Verdict.the-variants as Verdicts
+use Rattle.record.specs.declared.Given.{Given}
 use Rattle.record.specs.declared.Reply.{Reply}
 
 -- a record has 32 words or more
@@ -57,6 +58,10 @@ nodeIn words = wordIn words 6
 -- a scale's tuning, or a slide's step
 abbrev pub tuningIn : List ℕ → Float
 tuningIn words = realIn words 7
+
+-- what every call on a tree is given beside the tree's slices
+abbrev pub givenIn : List ℕ → Given
+givenIn words = record { root = rootIn words; random = generatorIn words; allowance = allowanceIn words }
 
 -- ---- what a call writes: `sets words k xs` is the words with xs from place k on
 

@@ -4,7 +4,7 @@ ghost use mathlib.Core.Path.{_≡_};
 ghost use mathlib.Core.List.{[], _∷_};
 ghost use lib.ListN.{set};
 ghost use lib.Seq.{sets};
-ghost use Rattle.record.specs.Record.{isRecord, wordIn, realIn, generatorIn, rootIn, allowanceIn, nodeIn, tuningIn};
+ghost use Rattle.record.specs.Record.{isRecord, wordIn, realIn, generatorIn, rootIn, allowanceIn, nodeIn, tuningIn, givenIn};
 ghost use Rattle.record.specs.Record.{withGenerator, withRoot, withNode, complement, movedReply, givenReply, refusedReply, written, replied, proposed, answered, judged};
 ghost use lib.Ieee.{binary64, toBits};
 use answer::Answer;
@@ -33,6 +33,13 @@ const LARGEST_ALLOWANCE: u64 = 65535;
 
 // The answer code of a record that is too short, which is not written.
 pub const NO_RECORD: u64 = 3;
+
+// What every call on a tree is given beside the tree's slices: the root, the generator and the allowance.
+pub struct Given {
+    pub root: usize,
+    pub random: Random,
+    pub allowance: u32,
+}
 
 // Words 8 to 12: the answer code, the draws made, the kind and two values.
 pub struct Reply {
@@ -104,6 +111,19 @@ pub fn tuning(words: &[u64]) -> f64
     ensures { λ r. ⌜ r ≡ tuningIn (now (words .entry)) ⌝ }
 {
     real_at(words, TUNING)
+}
+
+pub fn read(words: &[u64]) -> Given
+    ensures { λ r. ⌜ r ≡ givenIn (now (words .entry)) ⌝ }
+{
+    let root = root(words);
+    let random = generator(words);
+    let allowance = allowance(words);
+    Given {
+        root,
+        random,
+        allowance,
+    }
 }
 
 // ---- what a call writes

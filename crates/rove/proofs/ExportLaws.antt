@@ -29,8 +29,9 @@ use Rattle.slide.specs.declared.Begun.{Begun}
 use Rattle.slide.specs.declared.Begun.the-variants as Begins
 use Rattle.slide.specs.declared.Started.{Started}
 use Rattle.slide.specs.Started.{startedOf}
-use Rattle.record.specs.Record.{isRecord, noRecord, generatorIn, rootIn, allowanceIn, nodeIn, tuningIn, withGenerator, withRoot, withNode, Written, written, replied, givenReply, refusedReply, answered, judged}
-use Rattle.rove.specs.Exports.{left, moveLeft, exported, begunLeft, startExported, validateExported, filled, rootLeft, newExported, postorderExported, seedExported, nextExported, belowLeft, belowExported}
+use Rattle.record.specs.declared.Given.{Given}
+use Rattle.record.specs.Record.{isRecord, noRecord, generatorIn, rootIn, allowanceIn, nodeIn, tuningIn, givenIn, withGenerator, withRoot, withNode, Written, written, replied, givenReply, refusedReply, answered, judged}
+use Rattle.rove.specs.Exports.{left, moveLeft, treeIn, exported, begunLeft, startExported, validateExported, filled, rootLeft, newExported, postorderExported, seedExported, nextExported, belowLeft, belowExported}
 
 -- ---- the generator
 
@@ -142,29 +143,36 @@ module _ (words : List ℕ) (b : Bool) (eb : b ≡ isRecord words) (pairs parent
     unfolding exported
     move-short m = rw (← eb, n)
 
-  module _ (y : b ≡ true) (root : ℕ) (er : root ≡ rootIn words) (g : Random) (eg : g ≡ generatorIn words) (a : ℕ) (ea : a ≡ allowanceIn words) (after : List ℕ) (r : ℕ) where
-    pub start-done : (s : Started) → s ≡ startedOf g (startCall (treeOf pairs parents heights root) g a) → written r after ≡ begunLeft (s .answer) (s .random) words
-        → written r after ≡ startExported pairs parents heights words
+  -- q is what the record gives
+  module _ (y : b ≡ true) (q : Given) (eq : q ≡ givenIn words) (after : List ℕ) (r : ℕ) where
+    pub start-done : (s : Started) → s ≡ startedOf (q .random) (startCall (treeOf pairs parents heights (q .root)) (q .random) (q .allowance))
+        → written r after ≡ begunLeft (s .answer) (s .random) words → written r after ≡ startExported pairs parents heights words
     unfolding startExported
-    start-done s e h = rw (← eb, y, ← er, ← eg, ← ea, ← e) h
+    start-done s e h = rw (← eb, y) (h ∙ (λ i. begunLeft (f i .answer) (f i .random) words))
+      where
+        f : s ≡ startedOf (generatorIn words) (startCall (treeIn pairs parents heights words) (generatorIn words) (allowanceIn words))
+        f = e ∙ (λ i. startedOf (eq i .random) (startCall (treeOf pairs parents heights (eq i .root)) (eq i .random) (eq i .allowance)))
 
     -- c is the call's answer, and ps, qs and hs the slices after it
     module _ (c : Answered) (w : written r after ≡ answered (c .answer) (c .random) words) (ps qs : List ℕ) (hs : List Float) where
-      pub move-done : (m : Move) → called (c .answer) (c .random) ps qs hs ≡ moveCall m (treeOf pairs parents heights root) g a
+      pub move-done : (m : Move) → called (c .answer) (c .random) ps qs hs ≡ moveCall m (treeOf pairs parents heights (q .root)) (q .random) (q .allowance)
           → left (written r after) ps qs hs ≡ exported m pairs parents heights words
       unfolding exported
-      move-done m e = rw (← eb, y, ← er, ← eg, ← ea, w) (ap (λ (x : Called). moveLeft x words) e)
+      move-done m e =
+          rw (← eb, y, w)
+          (ap (λ (x : Called). moveLeft x words) (e ∙ (λ i. moveCall m (treeOf pairs parents heights (eq i .root)) (eq i .random) (eq i .allowance))))
 
       module _ (s : Float) (es : s ≡ tuningIn words) where
-        pub root-scale-done : called (c .answer) (c .random) ps qs hs ≡ moveCall (rootScale s) (treeOf pairs parents heights root) g a
+        pub root-scale-done : called (c .answer) (c .random) ps qs hs ≡ moveCall (rootScale s) (treeOf pairs parents heights (q .root)) (q .random) (q .allowance)
             → left (written r after) ps qs hs ≡ exported (rootScale (tuningIn words)) pairs parents heights words
         root-scale-done e = rw (← es) (move-done (rootScale s) e)
 
-        pub tree-scale-done : called (c .answer) (c .random) ps qs hs ≡ moveCall (treeScale s) (treeOf pairs parents heights root) g a
+        pub tree-scale-done : called (c .answer) (c .random) ps qs hs ≡ moveCall (treeScale s) (treeOf pairs parents heights (q .root)) (q .random) (q .allowance)
             → left (written r after) ps qs hs ≡ exported (treeScale (tuningIn words)) pairs parents heights words
         tree-scale-done e = rw (← es) (move-done (treeScale s) e)
 
-        pub slide-done : (k : ℕ) → k ≡ nodeIn words → called (c .answer) (c .random) ps qs hs ≡ moveCall (subtreeSlide k s) (treeOf pairs parents heights root) g a
+        pub slide-done : (k : ℕ) → k ≡ nodeIn words
+            → called (c .answer) (c .random) ps qs hs ≡ moveCall (subtreeSlide k s) (treeOf pairs parents heights (q .root)) (q .random) (q .allowance)
             → left (written r after) ps qs hs ≡ exported (subtreeSlide (nodeIn words) (tuningIn words)) pairs parents heights words
         slide-done k ek e = rw (← es, ← ek) (move-done (subtreeSlide k s) e)
 

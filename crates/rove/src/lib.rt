@@ -148,10 +148,16 @@ pub extern "C" fn rove_node_height(
     ensures { λ r. ⌜ left (written r (now (words .exit))) (now (pairs .entry)) (now (parents .entry)) (now (heights .exit)) ≡ exported nodeHeight (now (pairs .entry)) (now (parents .entry)) (now (heights .entry)) (now (words .entry)) ⌝ }
 {
     if record::is_record(words) {
-        let root = record::root(words);
-        let random = record::generator(words);
-        let allowance = record::allowance(words);
-        let answered = heights::node_height(pairs, parents, heights, root, random, allowance);
+        let given = record::read(words);
+        let random = given.random;
+        let answered = heights::node_height(
+            pairs,
+            parents,
+            heights,
+            given.root,
+            random,
+            given.allowance,
+        );
         return record::put_answer(words, answered);
     }
     NO_RECORD
@@ -191,10 +197,16 @@ pub extern "C" fn rove_slide_start(
     ensures { λ r. ⌜ written r (now (words .exit)) ≡ startExported (now (pairs .entry)) (now (parents .entry)) (now (heights .entry)) (now (words .entry)) ⌝ }
 {
     if record::is_record(words) {
-        let root = record::root(words);
-        let random = record::generator(words);
-        let allowance = record::allowance(words);
-        let started = slide::slide_start(pairs, parents, heights, root, random, allowance);
+        let given = record::read(words);
+        let random = given.random;
+        let started = slide::slide_start(
+            pairs,
+            parents,
+            heights,
+            given.root,
+            random,
+            given.allowance,
+        );
         return put_started(words, started);
     }
     NO_RECORD
@@ -211,20 +223,19 @@ pub extern "C" fn rove_subtree_slide(
     ensures { λ r. ⌜ left (written r (now (words .exit))) (now (pairs .exit)) (now (parents .exit)) (now (heights .exit)) ≡ exported (subtreeSlide (nodeIn (now (words .entry))) (tuningIn (now (words .entry)))) (now (pairs .entry)) (now (parents .entry)) (now (heights .entry)) (now (words .entry)) ⌝ }
 {
     if record::is_record(words) {
-        let root = record::root(words);
+        let given = record::read(words);
+        let random = given.random;
         let node = record::node(words);
         let step = record::tuning(words);
-        let random = record::generator(words);
-        let allowance = record::allowance(words);
         let answered = slide::subtree_slide(
             pairs,
             parents,
             heights,
-            root,
+            given.root,
             node,
             step,
             random,
-            allowance,
+            given.allowance,
         );
         return record::put_answer(words, answered);
     }
@@ -241,10 +252,16 @@ pub extern "C" fn rove_narrow_exchange(
     ensures { λ r. ⌜ left (written r (now (words .exit))) (now (pairs .exit)) (now (parents .exit)) (now (heights .entry)) ≡ exported narrowExchange (now (pairs .entry)) (now (parents .entry)) (now (heights .entry)) (now (words .entry)) ⌝ }
 {
     if record::is_record(words) {
-        let root = record::root(words);
-        let random = record::generator(words);
-        let allowance = record::allowance(words);
-        let answered = exchanges::narrow_exchange(pairs, parents, heights, root, random, allowance);
+        let given = record::read(words);
+        let random = given.random;
+        let answered = exchanges::narrow_exchange(
+            pairs,
+            parents,
+            heights,
+            given.root,
+            random,
+            given.allowance,
+        );
         return record::put_answer(words, answered);
     }
     NO_RECORD
@@ -260,10 +277,16 @@ pub extern "C" fn rove_wide_exchange(
     ensures { λ r. ⌜ left (written r (now (words .exit))) (now (pairs .exit)) (now (parents .exit)) (now (heights .entry)) ≡ exported wideExchange (now (pairs .entry)) (now (parents .entry)) (now (heights .entry)) (now (words .entry)) ⌝ }
 {
     if record::is_record(words) {
-        let root = record::root(words);
-        let random = record::generator(words);
-        let allowance = record::allowance(words);
-        let answered = exchanges::wide_exchange(pairs, parents, heights, root, random, allowance);
+        let given = record::read(words);
+        let random = given.random;
+        let answered = exchanges::wide_exchange(
+            pairs,
+            parents,
+            heights,
+            given.root,
+            random,
+            given.allowance,
+        );
         return record::put_answer(words, answered);
     }
     NO_RECORD
@@ -279,10 +302,16 @@ pub extern "C" fn rove_wilson_balding(
     ensures { λ r. ⌜ left (written r (now (words .exit))) (now (pairs .exit)) (now (parents .exit)) (now (heights .exit)) ≡ exported wilsonBalding (now (pairs .entry)) (now (parents .entry)) (now (heights .entry)) (now (words .entry)) ⌝ }
 {
     if record::is_record(words) {
-        let root = record::root(words);
-        let random = record::generator(words);
-        let allowance = record::allowance(words);
-        let answered = wilson::wilson_balding(pairs, parents, heights, root, random, allowance);
+        let given = record::read(words);
+        let random = given.random;
+        let answered = wilson::wilson_balding(
+            pairs,
+            parents,
+            heights,
+            given.root,
+            random,
+            given.allowance,
+        );
         return record::put_answer(words, answered);
     }
     NO_RECORD
@@ -299,18 +328,17 @@ pub extern "C" fn rove_root_scale(
     ensures { λ r. ⌜ left (written r (now (words .exit))) (now (pairs .entry)) (now (parents .entry)) (now (heights .exit)) ≡ exported (rootScale (tuningIn (now (words .entry)))) (now (pairs .entry)) (now (parents .entry)) (now (heights .entry)) (now (words .entry)) ⌝ }
 {
     if record::is_record(words) {
-        let root = record::root(words);
+        let given = record::read(words);
+        let random = given.random;
         let tuning = record::tuning(words);
-        let random = record::generator(words);
-        let allowance = record::allowance(words);
         let answered = heights::root_scale(
             pairs,
             parents,
             heights,
-            root,
+            given.root,
             tuning,
             random,
-            allowance,
+            given.allowance,
         );
         return record::put_answer(words, answered);
     }
@@ -328,18 +356,17 @@ pub extern "C" fn rove_tree_scale(
     ensures { λ r. ⌜ left (written r (now (words .exit))) (now (pairs .entry)) (now (parents .entry)) (now (heights .exit)) ≡ exported (treeScale (tuningIn (now (words .entry)))) (now (pairs .entry)) (now (parents .entry)) (now (heights .entry)) (now (words .entry)) ⌝ }
 {
     if record::is_record(words) {
-        let root = record::root(words);
+        let given = record::read(words);
+        let random = given.random;
         let tuning = record::tuning(words);
-        let random = record::generator(words);
-        let allowance = record::allowance(words);
         let answered = heights::tree_scale(
             pairs,
             parents,
             heights,
-            root,
+            given.root,
             tuning,
             random,
-            allowance,
+            given.allowance,
         );
         return record::put_answer(words, answered);
     }

@@ -7,14 +7,8 @@ use Rattle.rove.proofs.rove_narrow_exchange.Tie as tie
 is-record-requires : tie.Need-is-record-requires
 is-record-requires c κs = search needs
 
-root-requires : tie.Need-root-requires
-root-requires c κs = search needs
-
-generator-requires : tie.Need-generator-requires
-generator-requires c κs = search needs
-
-allowance-requires : tie.Need-allowance-requires
-allowance-requires c κs = search needs
+read-requires : tie.Need-read-requires
+read-requires c κs = search needs
 
 narrow-exchange-requires : tie.Need-narrow-exchange-requires
 narrow-exchange-requires c κs = search needs
@@ -45,9 +39,7 @@ rove-narrow-exchange-spec =
     tie.close
     (tie.spec
     is-record-requires
-    root-requires
-    generator-requires
-    allowance-requires
+    read-requires
     narrow-exchange-requires
     put-answer-requires
     same-length

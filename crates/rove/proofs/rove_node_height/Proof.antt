@@ -7,14 +7,8 @@ use Rattle.rove.proofs.rove_node_height.Tie as tie
 is-record-requires : tie.Need-is-record-requires
 is-record-requires c κs = search needs
 
-root-requires : tie.Need-root-requires
-root-requires c κs = search needs
-
-generator-requires : tie.Need-generator-requires
-generator-requires c κs = search needs
-
-allowance-requires : tie.Need-allowance-requires
-allowance-requires c κs = search needs
+read-requires : tie.Need-read-requires
+read-requires c κs = search needs
 
 node-height-requires : tie.Need-node-height-requires
 node-height-requires c κs = search needs
@@ -42,9 +36,7 @@ rove-node-height-spec =
     tie.close
     (tie.spec
     is-record-requires
-    root-requires
-    generator-requires
-    allowance-requires
+    read-requires
     node-height-requires
     put-answer-requires
     same-length

@@ -7,17 +7,11 @@ use Rattle.rove.proofs.rove_root_scale.Tie as tie
 is-record-requires : tie.Need-is-record-requires
 is-record-requires c κs = search needs
 
-root-requires : tie.Need-root-requires
-root-requires c κs = search needs
+read-requires : tie.Need-read-requires
+read-requires c κs = search needs
 
 tuning-requires : tie.Need-tuning-requires
 tuning-requires c κs = search needs
-
-generator-requires : tie.Need-generator-requires
-generator-requires c κs = search needs
-
-allowance-requires : tie.Need-allowance-requires
-allowance-requires c κs = search needs
 
 root-scale-requires : tie.Need-root-scale-requires
 root-scale-requires c κs = search needs
@@ -45,10 +39,8 @@ rove-root-scale-spec =
     tie.close
     (tie.spec
     is-record-requires
-    root-requires
+    read-requires
     tuning-requires
-    generator-requires
-    allowance-requires
     root-scale-requires
     put-answer-requires
     same-length

@@ -7,14 +7,8 @@ use Rattle.rove.proofs.rove_wilson_balding.Tie as tie
 is-record-requires : tie.Need-is-record-requires
 is-record-requires c κs = search needs
 
-root-requires : tie.Need-root-requires
-root-requires c κs = search needs
-
-generator-requires : tie.Need-generator-requires
-generator-requires c κs = search needs
-
-allowance-requires : tie.Need-allowance-requires
-allowance-requires c κs = search needs
+read-requires : tie.Need-read-requires
+read-requires c κs = search needs
 
 wilson-balding-requires : tie.Need-wilson-balding-requires
 wilson-balding-requires c κs = search needs
@@ -48,9 +42,7 @@ rove-wilson-balding-spec =
     tie.close
     (tie.spec
     is-record-requires
-    root-requires
-    generator-requires
-    allowance-requires
+    read-requires
     wilson-balding-requires
     put-answer-requires
     same-length
