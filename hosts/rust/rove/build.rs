@@ -4,12 +4,14 @@
 use std::path::PathBuf;
 use std::{env, fs};
 
-/// The archives, each with a function by which it is told whether that part of it has been made yet.
-const PARTS: [(&str, &str, &str); 4] = [
-    ("rove", "rove_new", "moves"),
-    ("rove", "rove_node_height_unvalidated", "unvalidated"),
-    ("rove_answer", "rove_answer", "answer"),
-    ("rove_parameters", "rove_scale", "parameters"),
+const ARCHIVES: [&str; 4] = ["rove", "rove_unvalidated", "rove_answer", "rove_parameters"];
+
+/// The parts of the wrapper, each with a function by which it is told whether the archives have it yet.
+const PARTS: [(&str, &str); 4] = [
+    ("moves", "rove_new"),
+    ("unvalidated", "rove_node_height_unvalidated"),
+    ("answer", "rove_answer"),
+    ("parameters", "rove_scale"),
 ];
 
 fn main() {
@@ -20,21 +22,22 @@ fn main() {
             .join("../../../target/staticlib"),
     };
     println!("cargo:rustc-link-search=native={}", folder.display());
-    let mut linked = Vec::new();
-    for (archive, function, part) in PARTS {
-        println!("cargo:rustc-check-cfg=cfg({part})");
+    let mut all = Vec::new();
+    for archive in ARCHIVES {
         let path = folder.join(format!("lib{archive}.a"));
         println!("cargo:rerun-if-changed={}", path.display());
-        let bytes = fs::read(&path).unwrap_or_default();
-        let symbol = format!("\0{function}\0");
-        if !bytes.windows(symbol.len()).any(|w| w == symbol.as_bytes()) {
-            println!("cargo:warning={part}: {function} is not in {}", path.display());
-            continue;
-        }
-        println!("cargo:rustc-cfg={part}");
-        if !linked.contains(&archive) {
+        if let Ok(bytes) = fs::read(&path) {
             println!("cargo:rustc-link-lib=static={archive}");
-            linked.push(archive);
+            all.extend(bytes);
+        }
+    }
+    for (part, function) in PARTS {
+        println!("cargo:rustc-check-cfg=cfg({part})");
+        let symbol = format!("\0{function}\0");
+        if all.windows(symbol.len()).any(|window| window == symbol.as_bytes()) {
+            println!("cargo:rustc-cfg={part}");
+        } else {
+            println!("cargo:warning={function} is in none of the archives yet");
         }
     }
 }
