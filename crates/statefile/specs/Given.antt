@@ -2,7 +2,7 @@
 -- Assumes nothing.
 use mathlib.Core.Path.{_≡_}
 use mathlib.Core.List.{List, [], _∷_, _++_, map}
-use Prim.Native.Nat.{ℕ, _+_, _-_, _*_, _≤_}
+use Prim.Native.Nat.{ℕ, _+_, _-_, _*_, _^_, _≤_, _<_}
 use lib.ListN.{length, take, drop}
 use lib.Ieee.{Float}
 use Rattle.text.specs.Rules.{Rule}
@@ -38,6 +38,12 @@ headGiven s (HeadRead.Read h i) = found h 8 (drop i s)
 headGiven s (HeadRead.Wrong k) = wrong k
 
 -- ---- so many lines into a slice, from a place of it on
+
+-- the numbers of the lines and the places of the slice are numbers of usize
+pub record Counts (k count from : ℕ) : Type 0 where
+  pub lines : k < 2 ^ 40
+  pub many : count < 2 ^ 40
+  pub places : from < 2 ^ 40
 
 -- the values of the lines, and the slice out that was lent as out₀: it holds them where there is room for all
 pub record Stored {A B : Type 0} (put : List A → List B) (width count : ℕ) (all : Found (List A)) (k : ℕ) (rest : List ℕ) (from : ℕ) (out₀ out : List B) : Type 0 where

@@ -1,10 +1,10 @@
 // The state file, read into lent slices. specs/StateFile.antt says what a file holds and how its lines are counted. Assumes nothing.
 ghost use mathlib.Core.Path.{_≡_};
-ghost use Prim.Native.Nat.{_<_};
+ghost use Prim.Native.Nat.{_+_, _^_, _<_};
 ghost use lib.ListN.{length, set, drop};
 ghost use Rattle.text.specs.Places.{DigitValues};
 ghost use Rattle.statefile.specs.StateFile.{supplied, asked, head};
-ghost use Rattle.statefile.specs.Given.{suppliedGiven, askedGiven, headGiven, pairsStored, heightsStored, fileGiven};
+ghost use Rattle.statefile.specs.Given.{suppliedGiven, askedGiven, headGiven, Counts, pairsStored, heightsStored, fileGiven};
 use forms::Four;
 use forms::Kind;
 use forms::Named;
@@ -123,4 +123,78 @@ fn read_head(s: &[u8], values: &[u8; 256]) -> HeadRead
             return HeadRead::Wrong(line);
         }
     }
+}
+
+// Stores a node's number at a place, if the slice has it.
+fn store_node(out: &mut [u16], i: usize, x: u16)
+    ensures { λ _. ⌜ now (out .exit) ≡ set (now (out .entry)) i x ⌝ }
+{
+    if i < out.len() {
+        out[i] = x;
+        return;
+    }
+}
+
+// Stores the two numbers of a pair from a place on, as far as the slice goes.
+fn store_pair(out: &mut [u16], i: usize, a: u16, b: u16)
+    requires { ⌜ i < 2 ^ 48 ⌝ }
+    ensures { λ _. ⌜ now (out .exit) ≡ set (set (now (out .entry)) i a) (i + 1) b ⌝ }
+{
+    store_node(out, i, a);
+    store_node(out, i + 1, b);
+}
+
+// Stores a height at a place, if the slice has it.
+fn store_height(out: &mut [f64], i: usize, x: f64)
+    ensures { λ _. ⌜ now (out .exit) ≡ set (now (out .entry)) i x ⌝ }
+{
+    if i < out.len() {
+        out[i] = x;
+        return;
+    }
+}
+
+// So many pairs, from the line and the place of the file on, into the places of the slice from `from` on, as far as there are any.
+fn read_pairs(s: &[u8], at: usize, line: usize, count: usize, out: &mut [u16], from: usize) -> LinesRead
+    requires { ⌜ Counts line count from ⌝ }
+    ensures { λ r. ⌜ pairsStored count line at (now (s .entry)) from (now (out .entry)) r (now (out .exit)) ⌝ }
+{
+    let mut k = 0;
+    let mut j = at;
+    while k < count {
+        match forms::read_pair(s, j) {
+            Pair::Children(a, b, e) => {
+                store_pair(out, from + k + k, a, b);
+                j = e;
+                k += 1;
+            }
+            Pair::Malformed => {
+                return LinesRead::Wrong(line + k);
+            }
+        }
+    }
+    LinesRead::Upto(j)
+}
+
+// So many heights, from the line and the place of the file on, into the slice, as far as it goes.
+fn read_heights(s: &[u8], at: usize, line: usize, count: usize, out: &mut [f64], values: &[u8; 256]) -> LinesRead
+    requires { ⌜ Counts line count 0 × DigitValues (now values) ⌝ }
+    ensures { λ r. ⌜ heightsStored count line at (now (s .entry)) (now (out .entry)) r (now (out .exit)) ⌝ }
+{
+    let mut k = 0;
+    let mut j = at;
+    while k < count {
+        match forms::read_height(s, j, values) {
+            Number::Value(w, e) => {
+                let x = real::of_bits(w);
+                store_height(out, k, x);
+                j = e;
+                k += 1;
+            }
+            Number::Malformed => {
+                return LinesRead::Wrong(line + k);
+            }
+        }
+    }
+    LinesRead::Upto(j)
 }
