@@ -16,9 +16,11 @@ number-small key t limit n rest small e = keyed (literal key t) e
     ended : (a : ℕ) (p : Parsed Unit) → a ≤ limit → onward p (λ _. return a) ≡ parsed n rest → n ≤ limit
     ended a malformed l q = absurd (unread q)
     ended a (parsed u r) l q = let v : a ≡ n = same-value q in omega arith
+
     valued : (r : List ℕ) (p : Parsed ℕ) → decimal limit r ≡ p → onward p (fixed lineEnd) ≡ parsed n rest → n ≤ limit
     valued r malformed d q = absurd (unread q)
     valued r (parsed a v) d q = ended a (literal lineEnd v) (decimal-small limit a r v small d) q
+
     keyed : (p : Parsed Unit) → onward p (λ _. decimal limit >>= fixed lineEnd) ≡ parsed n rest → n ≤ limit
     keyed malformed q = absurd (unread q)
     keyed (parsed u r) q = valued r (decimal limit r) (λ _. decimal limit r) q

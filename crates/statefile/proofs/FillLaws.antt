@@ -1,26 +1,28 @@
 -- The ways through the loops that read lines into a slice: the lines read so far and what the slice holds of them (`Filling`), one line more, and the
 -- end, for any form of line; then for pairs and for heights. Assumes nothing.
-use mathlib.Core.Path.{_≡_, refl, sym, ap, _∙_}
+use mathlib.Core.Path.{_≡_, refl, sym, ap, _∙_, subst}
 use mathlib.Core.List.{List, [], _∷_, _++_, append-assoc, append-nil, map}
 use Prim.Native.Nat.{ℕ, zero, suc, _+_, _-_, _*_, _≤_, _<_}
 use native.Mathlib.Nat.{add-zero, sub-zero, mul-zero}
 use native.Mathlib.Numerals.{add-one}
 use native.Mathlib.Omega.{arith}
-use lib.ListN.{length, set, take, drop, length-set, length-append, length-map, take-append-drop}
-use lib.Seq.{drop-cons, set-at, set-out, length-take-le}
+use lib.ListN.{length, set, take, drop, replicate, length-set, length-append, length-drop, length-map, length-replicate, replicate-append-replicate, take-append-drop}
+use lib.Seq.{drop-cons, take-at, set-at, set-out, length-take-le}
 use lib.Ieee.{Float, binary64, ofBits}
 use Rattle.text.specs.Rules.{Rule, Parsed, malformed, parsed}
 use Rattle.text.specs.Places.{numbered}
 use Rattle.text.specs.declared.Number.{Number}
 use Rattle.text.specs.declared.Number.the-variants.{Value, Malformed}
+use Rattle.tree.specs.Tree.{noNode}
 use Rattle.forms.specs.Forms.{pairLine, heightLine}
 use Rattle.forms.specs.Given.{paired}
 use Rattle.forms.specs.declared.Pair.{Pair}
 use Rattle.forms.specs.declared.Pair.the-variants as Pairs
 use Rattle.statefile.specs.Lines.{Found, wrong, found, each}
-use Rattle.statefile.specs.StateFile.{slots, real}
+use Rattle.statefile.specs.StateFile.{slots, withTips, real, nodesFor}
 use Rattle.statefile.specs.EachLaws.{after, after-none, after-after, each-none, each-wrong, each-more}
-use Rattle.statefile.specs.Given.{Stored, stored, pairsStored, heightsStored}
+use Rattle.statefile.specs.Given.{Stored, stored, pairsStored, heightsStored, Marked, Planted, planted}
+use Rattle.statefile.specs.declared.LinesRead.{LinesRead}
 use Rattle.statefile.specs.declared.LinesRead.the-variants.{Upto, Wrong}
 
 -- ---- a slice
@@ -65,7 +67,7 @@ module _ {A B : Type 0} (put : List A → List B) (width : ℕ) (is : Putting pu
     few = omega arith;
     rest = rw (sub-zero, add-zero, ← e) (sym (after-none (each count rule first t)));
     same = refl;
-    held = λ h. rw (mul-zero, add-zero, is .nothing, append-nil) (sym (take-append-drop from out₀))
+    held = λ h. rw (mul-zero, add-zero, is .nothing, append-nil) (sym (take-append-drop from out₀));
   }
 
   module _ (k j : ℕ) (out : List B) (f : Filling put width rule count first t s from out₀ k j out) where
@@ -87,7 +89,7 @@ module _ {A B : Type 0} (put : List A → List B) (width : ℕ) (is : Putting pu
         few = omega arith;
         rest = f .rest ∙ ap (after (f .values)) here ∙ after-after (f .values) (x ∷ []) (each (count - (k + 1)) rule (first + (k + 1)) (drop i s));
         same = l ∙ f .same;
-        held = g
+        held = g;
       }
         where
           here : each (count - k) rule (first + k) (drop j s) ≡ after (x ∷ []) (each (count - (k + 1)) rule (first + (k + 1)) (drop i s))
@@ -100,7 +102,7 @@ module _ {A B : Type 0} (put : List A → List B) (width : ℕ) (is : Putting pu
         let q : k ≡ count = omega (arith, f .few) in
         let z : count - k ≡ 0 = omega arith in
         let ends : after (f .values) (each (count - k) rule (first + k) (drop j s)) ≡ found (f .values) (first + count) (drop j s)
-            = rw (z, each-none rule (first + k) (drop j s), append-nil (f .values), q) in
+        = rw (z, each-none rule (first + k) (drop j s), append-nil (f .values), q) in
         record { values = f .values; are = f .rest ∙ ends; long = f .long ∙ q; held = rw q at (f .held) }
 
 -- ---- pairs
@@ -110,7 +112,7 @@ unfolding slots
 pairs-more [] (a, b) = refl
 pairs-more ((c, d) ∷ l) x = ap (λ (m : List ℕ). c ∷ d ∷ m) (pairs-more l x)
 
-pairs-long : (l : List (ℕ × ℕ)) → length (slots l) ≡ 2 * length l
+pub pairs-long : (l : List (ℕ × ℕ)) → length (slots l) ≡ 2 * length l
 unfolding slots
 pairs-long [] = refl
 pairs-long ((a, b) ∷ l) = let e = pairs-long l in omega arith
@@ -143,6 +145,7 @@ module _ (count first at : ℕ) (s : List ℕ) (from : ℕ) (out₀ : List ℕ) 
         where
           same : length p ≡ length out
           same = ap length ep ∙ length-set (set out (from + k + k) a) (from + k + k + 1) b ∙ length-set out (from + k + k) a
+
           held : from + 2 * (k + 1) ≤ length out₀ → p ≡ take from out₀ ++ slots (f .values ++ (a, b) ∷ []) ++ drop (from + 2 * (k + 1)) out₀
           held g =
               let n = from + k + k in
@@ -189,6 +192,7 @@ module _ (count first at : ℕ) (s : List ℕ) (out₀ : List Float) where
         where
           same : length o ≡ length out
           same = ap length eo ∙ length-set out k x
+
           held : 0 + 1 * (k + 1) ≤ length out₀ → o ≡ [] ++ map real (f .values ++ w ∷ []) ++ drop (0 + 1 * (k + 1)) out₀
           held g =
               let once : 0 + 1 * k ≡ k = omega arith in
@@ -199,3 +203,56 @@ module _ (count first at : ℕ) (s : List ℕ) (out₀ : List Float) where
               now ∙ (λ i. (ap (λ (y : Float). q ++ y ∷ []) ex ∙ sym (heights-more (f .values) w)) i ++ drop (sym more i) out₀)
 
 pub ruleset heightsLaws = (heights-none, heights-end, heights-wrong, heights-next)
+
+-- ---- marks, and then pairs
+
+-- i marks are made
+pub record Marking (count : ℕ) (out₀ : List ℕ) (i : ℕ) (out : List ℕ) : Type 0 where
+  pub few : i ≤ count
+  pub same : length out ≡ length out₀
+  pub is : out ≡ replicate i noNode ++ drop i out₀
+
+pub mark-none : (count : ℕ) (out₀ : List ℕ) → Marking count out₀ 0 out₀
+mark-none count out₀ = record { few = omega arith; same = refl; is = refl }
+
+module _ (count : ℕ) (out₀ : List ℕ) (i : ℕ) (out : List ℕ) (m : Marking count out₀ i out) where
+  pub mark-room : i < count → length out ≤ i → Marked count out₀ out
+  mark-room h l = record { same = m .same; held = λ r. absurd (omega (arith, m .same)) }
+
+  pub mark-end : count ≤ i → Marked count out₀ out
+  mark-end h = let q : i ≡ count = omega (arith, m .few) in record { same = m .same; held = λ r. rw q at (m .is) }
+
+  pub mark-more : i < count → i < length out → Marking count out₀ (i + 1) (set out i noNode)
+  mark-more h l =
+      let r : i < length out₀ = omega (arith, m .same) in
+      record {
+        few = omega arith;
+        same = length-set out i noNode ∙ m .same;
+        is = ap (λ (x : List ℕ). set x i noNode) (m .is) ∙ store-next (replicate i noNode) out₀ i noNode (length-replicate {A = ℕ} i noNode) r ∙ ap (λ (x : List ℕ). x ++ drop (i + 1) out₀) (replicate-append-replicate i 1 noNode);
+      }
+
+pub ruleset markLaws = (mark-none, mark-room, mark-end, mark-more)
+
+module _ (tips at : ℕ) (s out₀ out₁ out : List ℕ) (from count : ℕ) (m : Marked from out₀ out₁) (twice : from ≡ 2 * tips) (c : count ≡ tips - 1) where
+  pub plants : (r : LinesRead) → pairsStored count 8 at s from out₁ r out → planted tips at s out₀ r out
+  plants (Wrong n) e = subst (λ (x : ℕ). each x pairLine 8 (drop at s) ≡ wrong n) c e
+  plants (Upto i) p = record {
+    values = p .values;
+    are = subst (λ (x : ℕ). each x pairLine 8 (drop at s) ≡ found (p .values) (8 + x) (drop i s)) c (p .are);
+    long = p .long ∙ c;
+    held = held;
+  }
+    where
+      all : from + 2 * count ≡ 2 * nodesFor tips
+      all = omega arith
+
+      held : 2 * nodesFor tips ≤ length out₀ → take (2 * nodesFor tips) out ≡ withTips tips (p .values)
+      held h =
+          let was : out₁ ≡ replicate from noNode ++ drop from out₀ = m .held (omega arith) in
+          let marks : take from out₁ ≡ replicate from noNode = ap (take from) was ∙ take-at (replicate from noNode) (drop from out₀) from (length-replicate {A = ℕ} from noNode) in
+          let is : out ≡ (replicate from noNode ++ slots (p .values)) ++ drop (from + 2 * count) out₁ = p .held (omega (arith, m .same)) ∙ ap (λ (x : List ℕ). (x ++ slots (p .values)) ++ drop (from + 2 * count) out₁) marks in
+          let long : length (replicate from noNode ++ slots (p .values)) ≡ 2 * nodesFor tips
+          = length-append (replicate from noNode) (slots (p .values)) ∙ (λ i. length-replicate {A = ℕ} from noNode i + pairs-long (p .values) i) ∙ ap (λ (x : ℕ). from + 2 * x) (p .long) ∙ all in
+          ap (take (2 * nodesFor tips)) is ∙ take-at (replicate from noNode ++ slots (p .values)) (drop (from + 2 * count) out₁) (2 * nodesFor tips) long ∙ ap (λ (x : ℕ). replicate x noNode ++ slots (p .values)) twice
+
+pub ruleset plantLaws = (plants)
