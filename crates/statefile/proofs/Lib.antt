@@ -1,1 +1,3 @@
 pub mod HeadLaws
+pub mod FillLaws
+pub mod FileLaws

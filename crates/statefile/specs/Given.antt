@@ -2,13 +2,13 @@
 -- Assumes nothing.
 use mathlib.Core.Path.{_≡_}
 use mathlib.Core.List.{List, [], _∷_, _++_, map}
-use Prim.Native.Nat.{ℕ, _+_, _-_, _*_, _≤_}
-use lib.ListN.{length, take, drop}
+use Prim.Native.Nat.{ℕ, _+_, _-_, _*_, _^_, _≤_, _<_}
+use lib.ListN.{length, take, drop, replicate}
 use lib.Ieee.{Float}
-use Rattle.text.specs.Rules.{Rule}
+use Rattle.tree.specs.Tree.{noNode}
 use Rattle.forms.specs.Forms.{pairLine, heightLine}
 use Rattle.statefile.specs.Lines.{Found, wrong, found, each}
-use Rattle.statefile.specs.StateFile.{State, Reading, faulty, read, slots, real, nodesFor, stateOf, stateFile}
+use Rattle.statefile.specs.StateFile.{Nodes, Reading, faulty, read, slots, withTips, real, nodesFor, tree, stateOf, stateFile}
 use Rattle.statefile.specs.declared.Supplied.{Supplied}
 use Rattle.statefile.specs.declared.Asked.{Asked}
 use Rattle.statefile.specs.declared.Head.{Head}
@@ -39,6 +39,12 @@ headGiven s (HeadRead.Wrong k) = wrong k
 
 -- ---- so many lines into a slice, from a place of it on
 
+-- the numbers of the lines and the places of the slice are numbers of usize
+pub record Counts (k count from : ℕ) : Type 0 where
+  pub lines : k < 2 ^ 40
+  pub many : count < 2 ^ 40
+  pub places : from < 2 ^ 40
+
 -- the values of the lines, and the slice out that was lent as out₀: it holds them where there is room for all
 pub record Stored {A B : Type 0} (put : List A → List B) (width count : ℕ) (all : Found (List A)) (k : ℕ) (rest : List ℕ) (from : ℕ) (out₀ out : List B) : Type 0 where
   pub values : List A
@@ -57,16 +63,48 @@ pairsStored count k at s from out₀ r out = stored slots 2 count (each count pa
 abbrev pub heightsStored : ℕ → ℕ → ℕ → List ℕ → List Float → LinesRead → List Float → Type 0
 heightsStored count k at s out₀ r out = stored (map real) 1 count (each count heightLine k (drop at s)) (k + count) s 0 out₀ r out
 
--- ---- the whole file
+-- ---- a tree's pairs
 
--- the state that a file holds, and the slices: where there is room for its tree, it is the head's with the tree that they start with
+-- marks at the first places, where there is room for them
+pub record Marked (count : ℕ) (out₀ out : List ℕ) : Type 0 where
+  pub same : length out ≡ length out₀
+  pub held : count ≤ length out₀ → out ≡ replicate count noNode ++ drop count out₀
+
+-- the pairs of the internal nodes, and the slice: it starts with the tips' marks and these pairs, where there is room for all
+pub record Planted (tips : ℕ) (all : Found (List (ℕ × ℕ))) (k : ℕ) (rest : List ℕ) (out₀ out : List ℕ) : Type 0 where
+  pub values : List (ℕ × ℕ)
+  pub are : all ≡ found values k rest
+  pub long : length values ≡ tips - 1
+  pub held : 2 * nodesFor tips ≤ length out₀ → take (2 * nodesFor tips) out ≡ withTips tips values
+
+abbrev pub planted : ℕ → ℕ → List ℕ → List ℕ → LinesRead → List ℕ → Type 0
+planted tips at s out₀ (LinesRead.Upto i) out = Planted tips (each (tips - 1) pairLine 8 (drop at s)) (8 + (tips - 1)) (drop i s) out₀ out
+planted tips at s out₀ (LinesRead.Wrong n) out = each (tips - 1) pairLine 8 (drop at s) ≡ wrong n
+
+-- ---- a tree, and the whole file
+
+-- the nodes of so many tips, and the slices: they start with these nodes, where there is room for all
+pub record Shown (tips : ℕ) (t : Nodes) (pairs₀ pairs : List ℕ) (heights₀ heights : List Float) : Type 0 where
+  pub places : length (t .pairs) ≡ 2 * nodesFor tips
+  pub nodes : length (t .heights) ≡ nodesFor tips
+  pub pairsHeld : 2 * nodesFor tips ≤ length pairs₀ → take (2 * nodesFor tips) pairs ≡ t .pairs
+  pub heightsHeld : nodesFor tips ≤ length heights₀ → take (nodesFor tips) heights ≡ t .heights
+
+pub record Grown (tips : ℕ) (all : Found Nodes) (pairs₀ pairs : List ℕ) (heights₀ heights : List Float) : Type 0 where
+  pub tree : Nodes
+  pub line : ℕ
+  pub rest : List ℕ
+  pub is : all ≡ found tree line rest
+  pub shown : Shown tips tree pairs₀ pairs heights₀ heights
+
+abbrev pub grown : ℕ → ℕ → List ℕ → List ℕ → List Float → LinesRead → List ℕ → List Float → Type 0
+grown tips at s pairs₀ heights₀ (LinesRead.Upto i) pairs heights = Grown tips (tree tips 8 (drop at s)) pairs₀ pairs heights₀ heights
+grown tips at s pairs₀ heights₀ (LinesRead.Wrong n) pairs heights = tree tips 8 (drop at s) ≡ wrong n
+
 pub record Held (s : List ℕ) (h : Head) (pairs₀ pairs : List ℕ) (heights₀ heights : List Float) : Type 0 where
-  pub state : State
-  pub is : stateFile s ≡ read state
-  pub nodes : length (state .heights) ≡ nodesFor (h .tips)
-  pub slots : length (state .pairs) ≡ 2 * nodesFor (h .tips)
-  pub fits : 2 * nodesFor (h .tips) ≤ length pairs₀ → nodesFor (h .tips) ≤ length heights₀
-      → state ≡ stateOf h (take (2 * nodesFor (h .tips)) pairs) (take (nodesFor (h .tips)) heights)
+  pub tree : Nodes
+  pub is : stateFile s ≡ read (stateOf h tree)
+  pub shown : Shown (h .tips) tree pairs₀ pairs heights₀ heights
 
 abbrev pub fileGiven : List ℕ → List ℕ → List Float → FileRead → List ℕ → List Float → Type 0
 fileGiven s pairs₀ heights₀ (FileRead.Read h) pairs heights = Held s h pairs₀ pairs heights₀ heights

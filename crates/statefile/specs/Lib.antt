@@ -1,4 +1,5 @@
 pub mod Lines
 pub mod StateFile
+pub mod EachLaws
 pub mod Given
 pub mod Rows

@@ -17,6 +17,11 @@ use Rattle.forms.specs.declared.Kind.the-variants.{NodeHeight, SubtreeSlide, Na
 
 -- ---- what a file holds
 
+-- a tree as it is given
+pub record Nodes : Type 0 where
+  pub pairs : List ℕ
+  pub heights : List Float
+
 -- a call of a move: its allowance, the generator's words, the move with its parameters, and the tree's pairs and heights
 pub record State : Type 0 where
   pub allowance : ℕ
@@ -55,12 +60,12 @@ slots ((a, b) ∷ l) = a ∷ b ∷ slots l
 abbrev pub withTips : ℕ → List (ℕ × ℕ) → List ℕ
 withTips tips l = replicate (2 * tips) noNode ++ slots l
 
--- the lines before the tree, with a tree
-abbrev pub stateOf : Head → List ℕ → List Float → State
-stateOf h pairs heights =
+-- what stands before the tree, with a tree
+abbrev pub stateOf : Head → Nodes → State
+stateOf h t =
     let supplied = h .supplied in
     let asked = h .asked in
-    record { allowance = supplied .draws; words = wordsOf (supplied .words); move = moveOf (asked .kind) (asked .node) (asked .tuning); pairs = pairs; heights = heights }
+    record { allowance = supplied .draws; words = wordsOf (supplied .words); move = moveOf (asked .kind) (asked .node) (asked .tuning); pairs = t .pairs; heights = t .heights }
 
 -- ---- how it is read
 
@@ -88,14 +93,19 @@ head = do
   tips ← line tipsLine
   return (record { supplied = supplied; asked = asked; tips = tips })
 
--- "one pair per internal node, one height per node"
+-- "one pair per internal node, one height per node", and no more
+unfoldable pub tree : ℕ → Reader Nodes
+tree tips = do
+  pairs ← each (tips - 1) pairLine
+  heights ← each (nodesFor tips) heightLine
+  _ ← end
+  return (record { pairs = withTips tips pairs; heights = map real heights })
+
 unfoldable pub state : Reader State
 state = do
   h ← head
-  pairs ← each (h .tips - 1) pairLine
-  heights ← each (nodesFor (h .tips)) heightLine
-  _ ← end
-  return (stateOf h (withTips (h .tips) pairs) (map real heights))
+  t ← tree (h .tips)
+  return (stateOf h t)
 
 -- what a file says, or the first line that is not of its form
 pub data Reading : Type 0 where

@@ -1,10 +1,10 @@
 // The state file, read into lent slices. specs/StateFile.antt says what a file holds and how its lines are counted. Assumes nothing.
 ghost use mathlib.Core.Path.{_≡_};
-ghost use Prim.Native.Nat.{_<_};
+ghost use Prim.Native.Nat.{_+_, _-_, _^_, _<_};
 ghost use lib.ListN.{length, set, drop};
 ghost use Rattle.text.specs.Places.{DigitValues};
-ghost use Rattle.statefile.specs.StateFile.{supplied, asked, head};
-ghost use Rattle.statefile.specs.Given.{suppliedGiven, askedGiven, headGiven, pairsStored, heightsStored, fileGiven};
+ghost use Rattle.statefile.specs.StateFile.{nodesFor, supplied, asked, head};
+ghost use Rattle.statefile.specs.Given.{suppliedGiven, askedGiven, headGiven, Counts, Marked, pairsStored, planted, heightsStored, grown, fileGiven};
 use forms::Four;
 use forms::Kind;
 use forms::Named;
@@ -128,6 +128,194 @@ fn read_head(s: &[u8], values: &[u8; 256]) -> HeadRead
         }
         SuppliedRead::Wrong(line) => {
             return HeadRead::Wrong(line);
+        }
+    }
+}
+
+// Stores a node's number at a place, if the slice has it.
+fn store_node(out: &mut [u16], i: usize, x: u16)
+    ensures { λ _. ⌜ now (out .exit) ≡ set (now (out .entry)) i x ⌝ }
+{
+    if i < out.len() {
+        out[i] = x;
+        return;
+    }
+}
+
+// Stores the two numbers of a pair from a place on, as far as the slice goes.
+fn store_pair(out: &mut [u16], i: usize, a: u16, b: u16)
+    requires { ⌜ i < 2 ^ 48 ⌝ }
+    ensures { λ _. ⌜ now (out .exit) ≡ set (set (now (out .entry)) i a) (i + 1) b ⌝ }
+{
+    store_node(out, i, a);
+    store_node(out, i + 1, b);
+}
+
+// Stores a height at a place, if the slice has it.
+fn store_height(out: &mut [f64], i: usize, x: f64)
+    ensures { λ _. ⌜ now (out .exit) ≡ set (now (out .entry)) i x ⌝ }
+{
+    if i < out.len() {
+        out[i] = x;
+        return;
+    }
+}
+
+// So many pairs, from the line and the place of the file on, into the places of the slice from `from` on, as far as there are any.
+fn read_pairs(
+    s: &[u8],
+    at: usize,
+    line: usize,
+    count: usize,
+    out: &mut [u16],
+    from: usize,
+) -> LinesRead
+    requires { ⌜ Counts line count from ⌝ }
+    ensures { λ r. ⌜ pairsStored count line at (now (s .entry)) from (now (out .entry)) r (now (out .exit)) ⌝ }
+{
+    let mut k = 0;
+    let mut j = at;
+    while k < count {
+        match forms::read_pair(s, j) {
+            Pair::Children(a, b, e) => {
+                store_pair(out, from + k + k, a, b);
+                j = e;
+                k += 1;
+            }
+            Pair::Malformed => {
+                return LinesRead::Wrong(line + k);
+            }
+        }
+    }
+    LinesRead::Upto(j)
+}
+
+// So many heights, from the line and the place of the file on, into the slice, as far as it goes.
+fn read_heights(
+    s: &[u8],
+    at: usize,
+    line: usize,
+    count: usize,
+    out: &mut [f64],
+    values: &[u8; 256],
+) -> LinesRead
+    requires { ⌜ Counts line count 0 × DigitValues (now values) ⌝ }
+    ensures { λ r. ⌜ heightsStored count line at (now (s .entry)) (now (out .entry)) r (now (out .exit)) ⌝ }
+{
+    let mut k = 0;
+    let mut j = at;
+    while k < count {
+        match forms::read_height(s, j, values) {
+            Number::Value(w, e) => {
+                let x = real::of_bits(w);
+                store_height(out, k, x);
+                j = e;
+                k += 1;
+            }
+            Number::Malformed => {
+                return LinesRead::Wrong(line + k);
+            }
+        }
+    }
+    LinesRead::Upto(j)
+}
+
+// Marks the first places, as far as the slice goes.
+fn mark(out: &mut [u16], count: usize)
+    ensures { λ _. ⌜ Marked count (now (out .entry)) (now (out .exit)) ⌝ }
+{
+    let mut i = 0;
+    while i < count {
+        if out.len() <= i {
+            return;
+        }
+        out[i] = 65535;
+        i += 1;
+    }
+}
+
+fn internal_count(tips: u32) -> usize
+    ensures { λ r. ⌜ r ≡ tips - 1 ⌝ }
+{
+    if tips == 0 {
+        return 0;
+    }
+    tips as usize - 1
+}
+
+// The number of nodes of a tree with so many tips.
+pub fn node_count(tips: u32) -> usize
+    ensures { λ r. ⌜ r ≡ nodesFor tips ⌝ }
+{
+    if tips == 0 {
+        return 0;
+    }
+    2 * (tips as usize) - 1
+}
+
+// The pairs of a tree, from line 8 and a place of the file on, after the marks of its tips.
+fn read_nodes(s: &[u8], at: usize, tips: u32, pairs: &mut [u16]) -> LinesRead
+    ensures { λ r. ⌜ planted tips at (now (s .entry)) (now (pairs .entry)) r (now (pairs .exit)) ⌝ }
+{
+    let from = 2 * (tips as usize);
+    mark(pairs, from);
+    let count = internal_count(tips);
+    read_pairs(s, at, 8, count, pairs, from)
+}
+
+// The tree of so many tips, from line 8 and a place of the file on, which is the rest of the file.
+fn read_tree(
+    s: &[u8],
+    at: usize,
+    tips: u32,
+    pairs: &mut [u16],
+    heights: &mut [f64],
+    values: &[u8; 256],
+) -> LinesRead
+    requires { ⌜ DigitValues (now values) ⌝ }
+    ensures { λ r. ⌜ grown tips at (now (s .entry)) (now (pairs .entry)) (now (heights .entry)) r (now (pairs .exit)) (now (heights .exit)) ⌝ }
+{
+    match read_nodes(s, at, tips, pairs) {
+        LinesRead::Upto(i) => {
+            let line = 8 + internal_count(tips);
+            let count = node_count(tips);
+            match read_heights(s, i, line, count, heights, values) {
+                LinesRead::Upto(end) => {
+                    if s.len() <= end {
+                        return LinesRead::Upto(end);
+                    }
+                    return LinesRead::Wrong(line + count);
+                }
+                LinesRead::Wrong(k) => {
+                    return LinesRead::Wrong(k);
+                }
+            }
+        }
+        LinesRead::Wrong(k) => {
+            return LinesRead::Wrong(k);
+        }
+    }
+}
+
+// A whole file. The slices start with the tree's pairs and heights where they have room for all; after a fault they hold what came before it.
+pub fn read_state(file: &[u8], pairs: &mut [u16], heights: &mut [f64]) -> FileRead
+    ensures { λ r. ⌜ fileGiven (now (file .entry)) (now (pairs .entry)) (now (heights .entry)) r (now (pairs .exit)) (now (heights .exit)) ⌝ }
+{
+    let values = text::digit_values();
+    match read_head(file, &values) {
+        HeadRead::Read(head, at) => {
+            let tips = head.tips;
+            match read_tree(file, at, tips, pairs, heights, &values) {
+                LinesRead::Upto(_) => {
+                    return FileRead::Read(head);
+                }
+                LinesRead::Wrong(line) => {
+                    return FileRead::Wrong(line);
+                }
+            }
+        }
+        HeadRead::Wrong(line) => {
+            return FileRead::Wrong(line);
         }
     }
 }
