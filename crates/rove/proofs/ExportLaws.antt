@@ -1,7 +1,7 @@
 -- The ways through the exported functions: of the generator (`drawLaws`), of the tree (`treeLaws`), and of the moves (`moveLaws`). Each tests first
 -- whether it was given a record, whose words are `words`; b is what the test said. r is the code returned, and after the words at the end. Assumes
 -- nothing.
-use mathlib.Core.Path.{_≡_, sym, ap, _∙_}
+use mathlib.Core.Path.{_≡_, ap, _∙_}
 use mathlib.Core.Bool.{Bool, true, false}
 use mathlib.Core.List.{List}
 use Prim.Native.Nat.{ℕ}
@@ -17,10 +17,9 @@ use Rattle.random.specs.BelowCall.{belowCall}
 use Rattle.tree.specs.declared.Verdict.{Verdict}
 use Rattle.tree.specs.declared.Rooted.{Rooted}
 use Rattle.tree.specs.declared.Rooted.the-variants as Roots
-use Rattle.tree.specs.Tree.{Tree}
-use Rattle.tree.specs.New.{NewCall, validated, newCall}
+use Rattle.tree.specs.New.{validated, newCall}
 use Rattle.tree.specs.Given.{treeOf, newGiven}
-use Rattle.order.specs.Postorder.{PostorderCall, postorderGiven, postorderCall}
+use Rattle.order.specs.Postorder.{postorderGiven, postorderCall}
 use Rattle.calls.specs.declared.Answered.{Answered}
 use Rattle.calls.specs.Call.{Called, called}
 use Rattle.moves.specs.Moves.{Move, subtreeSlide, rootScale, treeScale, moveCall, startCall}
@@ -30,7 +29,7 @@ use Rattle.slide.specs.declared.Begun.the-variants as Begins
 use Rattle.slide.specs.declared.Started.{Started}
 use Rattle.slide.specs.Started.{startedOf}
 use Rattle.record.specs.declared.Given.{Given}
-use Rattle.record.specs.Record.{isRecord, noRecord, generatorIn, rootIn, allowanceIn, nodeIn, tuningIn, givenIn, withGenerator, withRoot, withNode, Written, written, replied, givenReply, refusedReply, answered, judged}
+use Rattle.record.specs.Record.{isRecord, noRecord, generatorIn, rootIn, allowanceIn, nodeIn, tuningIn, givenIn, withGenerator, withRoot, withNode, written, replied, givenReply, refusedReply, answered, judged}
 use Rattle.rove.specs.Exports.{left, moveLeft, treeIn, exported, begunLeft, startExported, validateExported, filled, rootLeft, newExported, postorderExported, seedExported, nextExported, belowLeft, belowExported}
 
 -- ---- the generator
