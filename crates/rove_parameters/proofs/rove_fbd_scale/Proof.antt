@@ -1,0 +1,86 @@
+-- `rove_parameters::rove_fbd_scale` meets its contract. Assumes nothing.
+use borrow.Author.Needs.{needs}
+use Rattle.rove_parameters.proofs.ProposalLaws.{proposalLaws}
+use Rattle.rove_parameters.proofs.rove_fbd_scale.Statement.{statement}
+use Rattle.rove_parameters.proofs.rove_fbd_scale.Tie as tie
+
+is-record-requires : tie.Need-is-record-requires
+is-record-requires c κs = search needs
+
+chosen-requires : tie.Need-chosen-requires
+chosen-requires c κs = search needs
+
+enum-known-field : tie.Need-enum-known-field
+enum-known-field c = search needs
+
+priors-requires : tie.Need-priors-requires
+priors-requires c κs = search needs
+
+process-requires : tie.Need-process-requires
+process-requires c κs = search needs
+
+real-at-requires : tie.Need-real-at-requires
+real-at-requires c κs = search needs
+
+tuning-requires : tie.Need-tuning-requires
+tuning-requires c κs = search needs
+
+generator-requires : tie.Need-generator-requires
+generator-requires c κs = search needs
+
+allowance-requires : tie.Need-allowance-requires
+allowance-requires c κs = search needs
+
+fbd-scale-requires : tie.Need-fbd-scale-requires
+fbd-scale-requires c κs = search needs
+
+put-process-scaled-requires : tie.Need-put-process-scaled-requires
+put-process-scaled-requires c κs = search needs
+
+same-length : tie.Need-same-length
+same-length c = search needs
+
+returns : tie.Need-returns
+returns c = search (proposalLaws, needs)
+
+enum-told : tie.Need-enum-told
+enum-told c = search needs
+
+put-refusal-requires : tie.Need-put-refusal-requires
+put-refusal-requires c κs = search needs
+
+same-length-2 : tie.Need-same-length-2
+same-length-2 c = search needs
+
+returns-2 : tie.Need-returns-2
+returns-2 c = search (proposalLaws, needs)
+
+same-length-3 : tie.Need-same-length-3
+same-length-3 c = search needs
+
+returns-3 : tie.Need-returns-3
+returns-3 c = search (proposalLaws, needs)
+
+pub rove-fbd-scale-spec : {M : Type 1} → statement M
+rove-fbd-scale-spec =
+    tie.close
+    (tie.spec
+    is-record-requires
+    chosen-requires
+    enum-known-field
+    priors-requires
+    process-requires
+    real-at-requires
+    tuning-requires
+    generator-requires
+    allowance-requires
+    fbd-scale-requires
+    put-process-scaled-requires
+    same-length
+    returns
+    enum-told
+    put-refusal-requires
+    same-length-2
+    returns-2
+    same-length-3
+    returns-3)
