@@ -22,7 +22,22 @@ use Rattle.record.specs.Record.{isRecord, noRecord, realIn, generatorIn, allowa
 use Rattle.record_parameters.specs.declared.Choice.{Choice}
 use Rattle.record_parameters.specs.declared.Choice.the-variants.{Of, Nothing}
 use Rattle.record_parameters.specs.Parameters.{optionalIn, speciationIn, processIn, priorsIn, chosenIn, withReal, withOptional, withSpeciation, withProcess, proposedLeft}
-use Rattle.rove_parameters.specs.Exports.{proposalExported, scaleExported, clockRateExported, birthDifferenceExported, birthRateExported, relativeDeathExported, clockSigmaExported, ratesLeft, branchRateScaleExported, fbdExported}
+use Rattle.rove_parameters.specs.Exports.{callLeft, proposalExported, scaleExported, clockRateExported, birthDifferenceExported, birthRateExported, relativeDeathExported, clockSigmaExported, ratesLeft, branchRateScaleExported, fieldLeft, fbdExported}
+
+-- ---- a call that answers p, with the generator h, and leaves v
+
+module _ (words after : List ℕ) (r : ℕ) (g : Random) (eg : g ≡ generatorIn words) (a : ℕ) (ea : a ≡ allowanceIn words) (p : Proposal) (h : Random) where
+  called : {P : Type 0} (write : P → List ℕ → List ℕ) (call : Random → ℕ → Proposed P) (v : P) → Change.proposed p h v ≡ call g a
+      → written r after ≡ proposedLeft write p h v words → written r after ≡ callLeft write call words
+  unfolding callLeft
+  called write call v e w = rw (← eg, ← ea, ← e) w
+
+  pub field-done : (f : Field) (i : ProcessPriors) → i ≡ priorsIn words → (x v : FossilizedBirthDeath) → x ≡ processIn words → (o : Float) → o ≡ realIn words 29
+      → (t : Float) → t ≡ tuningIn words → Change.proposed p h v ≡ fbdCall f i x o t g a → written r after ≡ proposedLeft withProcess p h v words
+      → written r after ≡ fieldLeft f words
+  field-done f i ei x v ex o eo t et e w = rw (← ei, ← ex, ← eo, ← et) (called withProcess (fbdCall f i x o t) v e w)
+
+-- ---- the exported functions
 
 module _ (words : List ℕ) (b : Bool) (eb : b ≡ isRecord words) where
   module _ (n : b ≡ false) where
@@ -43,12 +58,15 @@ module _ (words : List ℕ) (b : Bool) (eb : b ≡ isRecord words) where
     unfolding fbdExported
     fbd-nothing k ek z w = rw (← eb, y, ← ek, z) w
 
-    -- the call answers p, with the generator h, and leaves v
+    pub fbd-field : (k : Choice) → k ≡ chosenIn words → (f : Field) → k ≡ Of f → written r after ≡ fieldLeft f words → written r after ≡ fbdExported words
+    unfolding fbdExported
+    fbd-field k ek f z w = rw (← eb, y, ← ek, z) w
+
     module _ (g : Random) (eg : g ≡ generatorIn words) (a : ℕ) (ea : a ≡ allowanceIn words) (t : Float) (et : t ≡ tuningIn words) (p : Proposal) (h : Random) where
       done : {P : Type 0} (write : P → List ℕ → List ℕ) (call : Random → ℕ → Proposed P) (v : P) → Change.proposed p h v ≡ call g a
           → written r after ≡ proposedLeft write p h v words → written r after ≡ proposalExported write call words
       unfolding proposalExported
-      done write call v e w = rw (← eb, y, ← eg, ← ea, ← e) w
+      done write call v e w = rw (← eb, y) (called words after r g eg a ea p h write call v e w)
 
       pub scale-done : (x u v : Float) → Change.proposed p h v ≡ scaleCall x u t g a → x ≡ realIn words 13 → u ≡ realIn words 14
           → written r after ≡ proposedLeft (withReal 13) p h v words → written r after ≡ scaleExported words
@@ -76,10 +94,4 @@ module _ (words : List ℕ) (b : Bool) (eb : b ≡ isRecord words) where
       unfolding branchRateScaleExported
       branch-rate-done x ex rates new e w = rw (← eb, y, ← eg, ← ea, ← ex, ← et, ← e, w)
 
-      pub fbd-done : (k : Choice) → k ≡ chosenIn words → (f : Field) → k ≡ Of f → (i : ProcessPriors) → i ≡ priorsIn words → (x v : FossilizedBirthDeath) → x ≡ processIn words
-          → (o : Float) → o ≡ realIn words 29 → Change.proposed p h v ≡ fbdCall f i x o t g a → written r after ≡ proposedLeft withProcess p h v words
-          → written r after ≡ fbdExported words
-      unfolding fbdExported
-      fbd-done k ek f z i ei x v ex o eo e w = rw (← eb, y, ← ek, z, ← ei, ← ex, ← eo, ← et, ← eg, ← ea, ← e) w
-
-pub ruleset proposalLaws = (proposal-short, rate-short, fbd-short, fbd-nothing, scale-done, clock-rate-done, clock-sigma-done, birth-difference-done, birth-rate-done, relative-death-done, branch-rate-done, fbd-done)
+pub ruleset proposalLaws = (proposal-short, rate-short, fbd-short, fbd-nothing, scale-done, clock-rate-done, clock-sigma-done, birth-difference-done, birth-rate-done, relative-death-done, branch-rate-done, fbd-field, field-done)

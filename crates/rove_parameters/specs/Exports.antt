@@ -10,6 +10,7 @@ use Rattle.random.specs.declared.Random.{Random}
 use Rattle.calls.specs.Change.{Proposed}
 use Rattle.scales.specs.Scales.{scaleCall, clockRateCall, birthDifferenceCall, birthRateCall, relativeDeathCall}
 use Rattle.clocks.specs.Clocks.{clockSigmaCall, branchRateCall}
+use Rattle.fields.specs.declared.Field.{Field}
 use Rattle.fields.specs.Fields.{fbdCall}
 use Rattle.record.specs.Record.{isRecord, noRecord, realIn, generatorIn, allowanceIn, tuningIn, Written, written, onRecord, replied, refusedReply, proposed}
 use Rattle.record_parameters.specs.declared.Choice.{Choice}
@@ -19,7 +20,7 @@ use Rattle.record_parameters.specs.Parameters.{optionalIn, speciationIn, proces
 -- ---- proposals
 
 -- a call on parameters, with the record's generator and allowance; write puts the parameters where they stand
-abbrev pub callLeft : {P : Type 0} → (P → List ℕ → List ℕ) → (Random → ℕ → Proposed P) → List ℕ → Written
+unfoldable pub callLeft : {P : Type 0} → (P → List ℕ → List ℕ) → (Random → ℕ → Proposed P) → List ℕ → Written
 callLeft write call words = let c = call (generatorIn words) (allowanceIn words) in proposedLeft write (c .answer) (c .random) (c .value) words
 
 unfoldable pub proposalExported : {P : Type 0} → (P → List ℕ → List ℕ) → (Random → ℕ → Proposed P) → List ℕ → Written
@@ -58,10 +59,13 @@ branchRateScaleExported rates words =
     ratesLeft (proposed (c .answer) (c .random) words) (c .value))
     (ratesLeft (written noRecord words) rates)
 
+abbrev pub fieldLeft : Field → List ℕ → Written
+fieldLeft field words = callLeft withProcess (fbdCall field (priorsIn words) (processIn words) (realIn words 29) (tuningIn words)) words
+
 -- a number that names no field is a 5 with detail 0
-abbrev pub fbdLeft : Choice → List ℕ → Written
-fbdLeft (Of field) words = callLeft withProcess (fbdCall field (priorsIn words) (processIn words) (realIn words 29) (tuningIn words)) words
-fbdLeft Nothing words = replied (refusedReply (Parameter 0)) words
+abbrev pub chosenLeft : Choice → List ℕ → Written
+chosenLeft (Of field) words = fieldLeft field words
+chosenLeft Nothing words = replied (refusedReply (Parameter 0)) words
 
 unfoldable pub fbdExported : List ℕ → Written
-fbdExported words = onRecord words (fbdLeft (chosenIn words) words)
+fbdExported words = onRecord words (chosenLeft (chosenIn words) words)

@@ -3,8 +3,9 @@
 // are not enough words for a record, which changes nothing. None has a `requires`. Assumes nothing.
 ghost use mathlib.Core.Path.{_≡_};
 ghost use Rattle.record.specs.Record.{written};
-ghost use Rattle.rove_parameters.specs.Exports.{scaleExported, clockRateExported, birthDifferenceExported, birthRateExported, relativeDeathExported, clockSigmaExported, ratesLeft, branchRateScaleExported, fbdExported};
+ghost use Rattle.rove_parameters.specs.Exports.{scaleExported, clockRateExported, birthDifferenceExported, birthRateExported, relativeDeathExported, clockSigmaExported, ratesLeft, branchRateScaleExported, fieldLeft, fbdExported};
 use answer::Refusal;
+use fields::Field;
 use record::NO_RECORD;
 use record_parameters::Choice;
 
@@ -125,7 +126,21 @@ pub extern "C" fn rove_branch_rate_scale(rates: &mut [f64], words: &mut [u64]) -
     NO_RECORD
 }
 
-// Of the field of the process that word 6 names.
+// A scale of one field of the process.
+fn field_scale(field: Field, words: &mut [u64]) -> u64
+    ensures { λ r. ⌜ written r (now (words .exit)) ≡ fieldLeft field (now (words .entry)) ⌝ }
+{
+    let priors = record_parameters::priors(words);
+    let process = record_parameters::process(words);
+    let offset = record::real_at(words, 29);
+    let tuning = record::tuning(words);
+    let random = record::generator(words);
+    let allowance = record::allowance(words);
+    let scaled = fields::fbd_scale(field, priors, process, offset, tuning, random, allowance);
+    record_parameters::put_process_scaled(words, scaled)
+}
+
+// Of the field that word 6 names.
 #[no_mangle]
 pub extern "C" fn rove_fbd_scale(words: &mut [u64]) -> u64
     ensures { λ r. ⌜ written r (now (words .exit)) ≡ fbdExported (now (words .entry)) ⌝ }
@@ -133,22 +148,7 @@ pub extern "C" fn rove_fbd_scale(words: &mut [u64]) -> u64
     if record::is_record(words) {
         match record_parameters::chosen(words) {
             Choice::Of(field) => {
-                let priors = record_parameters::priors(words);
-                let process = record_parameters::process(words);
-                let offset = record::real_at(words, 29);
-                let tuning = record::tuning(words);
-                let random = record::generator(words);
-                let allowance = record::allowance(words);
-                let scaled = fields::fbd_scale(
-                    field,
-                    priors,
-                    process,
-                    offset,
-                    tuning,
-                    random,
-                    allowance,
-                );
-                return record_parameters::put_process_scaled(words, scaled);
+                return field_scale(field, words);
             }
             Choice::Nothing => {
                 return record::put_refusal(words, Refusal::Parameter(0));

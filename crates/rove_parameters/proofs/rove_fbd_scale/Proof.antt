@@ -13,29 +13,8 @@ chosen-requires c κs = search needs
 enum-known-field : tie.Need-enum-known-field
 enum-known-field c = search needs
 
-priors-requires : tie.Need-priors-requires
-priors-requires c κs = search needs
-
-process-requires : tie.Need-process-requires
-process-requires c κs = search needs
-
-real-at-requires : tie.Need-real-at-requires
-real-at-requires c κs = search needs
-
-tuning-requires : tie.Need-tuning-requires
-tuning-requires c κs = search needs
-
-generator-requires : tie.Need-generator-requires
-generator-requires c κs = search needs
-
-allowance-requires : tie.Need-allowance-requires
-allowance-requires c κs = search needs
-
-fbd-scale-requires : tie.Need-fbd-scale-requires
-fbd-scale-requires c κs = search needs
-
-put-process-scaled-requires : tie.Need-put-process-scaled-requires
-put-process-scaled-requires c κs = search needs
+field-scale-requires : tie.Need-field-scale-requires
+field-scale-requires c κs = search needs
 
 same-length : tie.Need-same-length
 same-length c = search needs
@@ -68,14 +47,7 @@ rove-fbd-scale-spec =
     is-record-requires
     chosen-requires
     enum-known-field
-    priors-requires
-    process-requires
-    real-at-requires
-    tuning-requires
-    generator-requires
-    allowance-requires
-    fbd-scale-requires
-    put-process-scaled-requires
+    field-scale-requires
     same-length
     returns
     enum-told
