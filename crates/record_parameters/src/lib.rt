@@ -1,19 +1,28 @@
-// The parameters in a record (crate record): how a host hands a call on parameters its values, in words 13 to 31, and where it finds them after a
-// call that scaled them. specs/Parameters.antt gives the place and the form of each. Every function takes any slice of words. Assumes nothing.
+// The parameters in a record (crate record): how a host hands a call its parameters, in words 13 to 31, and where it finds them after a call that
+// scaled them (specs/Parameters.antt); and how the calls that ask about a clock, a density or a clade answer in a record (specs/Answers.antt). Every
+// function takes any slice of words. Assumes nothing.
 ghost use mathlib.Core.Path.{_≡_};
 ghost use Rattle.record.specs.Record.{written};
 ghost use Rattle.record_parameters.specs.Parameters.{optionalIn, speciationIn, processIn, shapesIn, priorsIn, chosenIn};
 ghost use Rattle.record_parameters.specs.Parameters.{isScaled, proposedLeft, withReal, withOptional, withSpeciation, withProcess};
+ghost use Rattle.record_parameters.specs.Answers.{flagWord, isStored, rateLeft, storedLeft, sigmaLeft, densityLeft, monophylyLeft, ageLeft};
 use answer::Proposal;
+use clades::Age;
+use clades::Monophyly;
 use fields::Field;
 use fields::ProcessScaled;
 use process::FossilizedBirthDeath;
 use process::ProcessPriors;
 use process::Shapes;
+use rates::Rate;
+use rates::SigmaSet;
+use rates::Stored;
 use real::Optional;
+use record::Reply;
 use scales::OptionalScaled;
 use scales::Scaled;
 use scales::SpeciationScaled;
+use speciation::Density;
 use speciation::Speciation;
 
 // The field of a process that a call scales, if its number names one.
@@ -96,7 +105,7 @@ pub fn chosen(words: &[u64]) -> Choice
     Choice::Nothing
 }
 
-// ---- what a call writes
+// ---- what a call on parameters writes
 
 fn is_scaled(proposal: Proposal) -> bool
     ensures { λ r. ⌜ r ≡ isScaled proposal ⌝ }
@@ -201,4 +210,116 @@ pub fn put_process_scaled(words: &mut [u64], s: ProcessScaled) -> u64
         return record::put_proposal(words, proposal, random);
     }
     record::put_proposal(words, proposal, random)
+}
+
+// ---- what a call writes that asks
+
+fn flag(holds: bool) -> u64
+    ensures { λ r. ⌜ r ≡ flagWord holds ⌝ }
+{
+    if holds {
+        return 1;
+    }
+    0
+}
+
+pub fn put_rate(words: &mut [u64], rate: Rate) -> u64
+    ensures { λ r. ⌜ written r (now (words .exit)) ≡ rateLeft rate (now (words .entry)) ⌝ }
+{
+    match rate {
+        Rate::At(x) => {
+            return record::put_given(words, 0, real::to_bits(x), 0);
+        }
+        Rate::Refused(why) => {
+            return record::put_refusal(words, why);
+        }
+    }
+}
+
+pub fn put_stored(words: &mut [u64], stored: Stored) -> u64
+    ensures { λ r. ⌜ written r (now (words .exit)) ≡ storedLeft stored (now (words .entry)) ⌝ }
+{
+    match stored {
+        Stored::Is(holds) => {
+            return record::put_given(words, 0, flag(holds), 0);
+        }
+        Stored::Refused(why) => {
+            return record::put_refusal(words, why);
+        }
+    }
+}
+
+fn is_stored(stored: Stored) -> bool
+    ensures { λ r. ⌜ r ≡ isStored stored ⌝ }
+{
+    match stored {
+        Stored::Is(holds) => holds,
+        Stored::Refused(_) => false,
+    }
+}
+
+// A sigma that was stored goes into word 14.
+pub fn put_sigma(words: &mut [u64], s: SigmaSet) -> u64
+    ensures { λ r. ⌜ written r (now (words .exit)) ≡ sigmaLeft s (now (words .entry)) ⌝ }
+{
+    let stored = s.stored;
+    if is_stored(stored) {
+        record::put_real(words, 14, s.sigma);
+        return put_stored(words, stored);
+    }
+    put_stored(words, stored)
+}
+
+// The terms of a density: the first as the first value, the others into words 14 and 15.
+pub fn put_density(words: &mut [u64], density: Density) -> u64
+    ensures { λ r. ⌜ written r (now (words .exit)) ≡ densityLeft density (now (words .entry)) ⌝ }
+{
+    match density {
+        Density::MinusInfinity => {
+            return record::put_reply(
+                words,
+                Reply {
+                    code: 1,
+                    draws: 0,
+                    kind: 0,
+                    first: 0,
+                    second: 0,
+                },
+            );
+        }
+        Density::Terms(count, rate, product) => {
+            record::put_real(words, 14, rate);
+            record::put_real(words, 15, product);
+            return record::put_given(words, 0, count as u64, 0);
+        }
+        Density::Refused(why) => {
+            return record::put_refusal(words, why);
+        }
+    }
+}
+
+pub fn put_monophyly(words: &mut [u64], monophyly: Monophyly) -> u64
+    ensures { λ r. ⌜ written r (now (words .exit)) ≡ monophylyLeft monophyly (now (words .entry)) ⌝ }
+{
+    match monophyly {
+        Monophyly::Is(holds) => {
+            return record::put_given(words, 0, flag(holds), 0);
+        }
+        Monophyly::Refused(why) => {
+            return record::put_refusal(words, why);
+        }
+    }
+}
+
+pub fn put_age(words: &mut [u64], age: Age) -> u64
+    ensures { λ r. ⌜ written r (now (words .exit)) ≡ ageLeft age (now (words .entry)) ⌝ }
+{
+    match age {
+        Age::Thousandths(count) => {
+            return record::put_given(words, 0, count, 0);
+        }
+        Age::Refused(why) => {
+            return record::put_refusal(words, why);
+        }
+    }
 }
