@@ -1,9 +1,14 @@
-// The functions that C and Rust hosts call for what moves beside a tree: the proposals on parameters. Each takes the words of a record (crate record)
-// last, with the parameters in words 13 to 31 (crate record_parameters), and returns the answer code: 0 done, 1 declined, 2 refused, 3 where there
-// are not enough words for a record, which changes nothing. None has a `requires`. Assumes nothing.
+// The functions that C and Rust hosts call for what moves beside a tree, and for what is asked of one: the proposals on parameters, the relaxed clock,
+// priors, the Yule density, tip dating and clades. Each takes slices and, last, the words of a record (crate record), with parameters in words 13 to 31
+// (crate record_parameters), and returns the answer code: 0 done, 1 declined, 2 refused, 3 where there are not enough words for a record, which changes
+// nothing. None has a `requires`. Assumes nothing.
 ghost use mathlib.Core.Path.{_≡_};
 ghost use Rattle.record.specs.Record.{written};
-ghost use Rattle.rove_parameters.specs.Exports.{scaleExported, clockRateExported, birthDifferenceExported, birthRateExported, relativeDeathExported, clockSigmaExported, ratesLeft, branchRateScaleExported, fieldLeft, fbdExported};
+ghost use Rattle.record_parameters.specs.Parameters.{processIn};
+ghost use Rattle.tree.specs.Tree.{nodesOf, tipsOf};
+ghost use Rattle.ages.specs.Ages.{atFault, Undecided};
+ghost use Rattle.rove_parameters.specs.Exports.{scaleExported, clockRateExported, birthDifferenceExported, birthRateExported, relativeDeathExported, clockSigmaExported, lent, branchRateScaleExported, fieldLeft, fbdExported};
+ghost use Rattle.rove_parameters.specs.Exports.{clockExported, branchRateExported, setSigmaExported, setRateExported, priorsExported, yuleExported, initializeExported, tipAgeExported, monophylyExported, ageExported};
 use answer::Refusal;
 use fields::Field;
 use record::NO_RECORD;
@@ -111,7 +116,7 @@ pub extern "C" fn rove_clock_sigma_scale(rates: &[f64], words: &mut [u64]) -> u6
 // Of one of the rates.
 #[no_mangle]
 pub extern "C" fn rove_branch_rate_scale(rates: &mut [f64], words: &mut [u64]) -> u64
-    ensures { λ r. ⌜ ratesLeft (written r (now (words .exit))) (now (rates .exit)) ≡ branchRateScaleExported (now (rates .entry)) (now (words .entry)) ⌝ }
+    ensures { λ r. ⌜ lent (written r (now (words .exit))) (now (rates .exit)) ≡ branchRateScaleExported (now (rates .entry)) (now (words .entry)) ⌝ }
 {
     if record::is_record(words) {
         let sigma = record_parameters::optional(words, 13, 14);
@@ -154,6 +159,185 @@ pub extern "C" fn rove_fbd_scale(words: &mut [u64]) -> u64
                 return record::put_refusal(words, Refusal::Parameter(0));
             }
         }
+    }
+    NO_RECORD
+}
+
+// ---- the clock: sigma in word 14
+
+// Whether the rates are a clock.
+#[no_mangle]
+pub extern "C" fn rove_clock(rates: &[f64], words: &mut [u64]) -> u64
+    ensures { λ r. ⌜ written r (now (words .exit)) ≡ clockExported (now (rates .entry)) (now (words .entry)) ⌝ }
+{
+    if record::is_record(words) {
+        let verdict = rates::new(record::real_at(words, 14), rates);
+        return record::put_verdict(words, verdict);
+    }
+    NO_RECORD
+}
+
+// The rate of the branch of the node in word 6, with the root in word 4.
+#[no_mangle]
+pub extern "C" fn rove_branch_rate(rates: &[f64], words: &mut [u64]) -> u64
+    ensures { λ r. ⌜ written r (now (words .exit)) ≡ branchRateExported (now (rates .entry)) (now (words .entry)) ⌝ }
+{
+    if record::is_record(words) {
+        let sigma = record::real_at(words, 14);
+        let rate = rates::branch_rate(sigma, rates, record::node(words), record::root(words));
+        return record_parameters::put_rate(words, rate);
+    }
+    NO_RECORD
+}
+
+// The new sigma is in word 15.
+#[no_mangle]
+pub extern "C" fn rove_set_sigma(rates: &[f64], words: &mut [u64]) -> u64
+    ensures { λ r. ⌜ written r (now (words .exit)) ≡ setSigmaExported (now (rates .entry)) (now (words .entry)) ⌝ }
+{
+    if record::is_record(words) {
+        let sigma = record::real_at(words, 14);
+        let set = rates::set_sigma(sigma, rates, record::real_at(words, 15));
+        return record_parameters::put_sigma(words, set);
+    }
+    NO_RECORD
+}
+
+// The index is in word 6, and the new rate in word 15.
+#[no_mangle]
+pub extern "C" fn rove_set_rate(rates: &mut [f64], words: &mut [u64]) -> u64
+    ensures { λ r. ⌜ lent (written r (now (words .exit))) (now (rates .exit)) ≡ setRateExported (now (rates .entry)) (now (words .entry)) ⌝ }
+{
+    if record::is_record(words) {
+        let sigma = record::real_at(words, 14);
+        let index = record::node(words);
+        let new = record::real_at(words, 15);
+        let stored = rates::set_rate(sigma, rates, index, new);
+        return record_parameters::put_stored(words, stored);
+    }
+    NO_RECORD
+}
+
+// ---- priors and density
+
+#[no_mangle]
+pub extern "C" fn rove_validate_priors(words: &mut [u64]) -> u64
+    ensures { λ r. ⌜ written r (now (words .exit)) ≡ priorsExported (now (words .entry)) ⌝ }
+{
+    if record::is_record(words) {
+        let verdict = record_parameters::priors(words).validate();
+        return record::put_verdict(words, verdict);
+    }
+    NO_RECORD
+}
+
+// At the rate in word 13.
+#[no_mangle]
+pub extern "C" fn rove_yule_log_density(
+    pairs: &[u16],
+    parents: &[u16],
+    heights: &[f64],
+    words: &mut [u64],
+) -> u64
+    ensures { λ r. ⌜ written r (now (words .exit)) ≡ yuleExported (now (pairs .entry)) (now (parents .entry)) (now (heights .entry)) (now (words .entry)) ⌝ }
+{
+    if record::is_record(words) {
+        let root = record::root(words);
+        let rate = record::real_at(words, 13);
+        let density = speciation::yule_log_density(pairs, parents, heights, root, rate);
+        return record_parameters::put_density(words, density);
+    }
+    NO_RECORD
+}
+
+// ---- tip dating, with the ages of the tips in two slices
+
+#[no_mangle]
+pub extern "C" fn rove_initialize(
+    pairs: &[u16],
+    parents: &[u16],
+    heights: &mut [f64],
+    minima: &[f64],
+    maxima: &[f64],
+    words: &mut [u64],
+) -> u64
+    ensures { λ r. ⌜ Undecided (atFault (processIn (now (words .entry))) (now (minima .entry)) (now (maxima .entry))) (tipsOf (nodesOf (now (pairs .entry)))) (initializeExported (now (pairs .entry)) (now (parents .entry)) (now (heights .entry)) (now (minima .entry)) (now (maxima .entry)) (now (words .entry))) (lent (written r (now (words .exit))) (now (heights .exit))) ⌝ }
+{
+    if record::is_record(words) {
+        let root = record::root(words);
+        let process = record_parameters::process(words);
+        let verdict = dating::initialize(pairs, parents, heights, root, minima, maxima, process);
+        return record::put_verdict(words, verdict);
+    }
+    NO_RECORD
+}
+
+#[no_mangle]
+pub extern "C" fn rove_propose_age(
+    pairs: &[u16],
+    parents: &[u16],
+    heights: &mut [f64],
+    minima: &[f64],
+    maxima: &[f64],
+    words: &mut [u64],
+) -> u64
+    ensures { λ r. ⌜ Undecided (atFault (processIn (now (words .entry))) (now (minima .entry)) (now (maxima .entry))) (tipsOf (nodesOf (now (pairs .entry)))) (tipAgeExported (now (pairs .entry)) (now (parents .entry)) (now (heights .entry)) (now (minima .entry)) (now (maxima .entry)) (now (words .entry))) (lent (written r (now (words .exit))) (now (heights .exit))) ⌝ }
+{
+    if record::is_record(words) {
+        let root = record::root(words);
+        let process = record_parameters::process(words);
+        let random = record::generator(words);
+        let allowance = record::allowance(words);
+        let answered = dating::propose_age(
+            pairs,
+            parents,
+            heights,
+            root,
+            minima,
+            maxima,
+            process,
+            random,
+            allowance,
+        );
+        return record::put_answer(words, answered);
+    }
+    NO_RECORD
+}
+
+// ---- clades: a byte for each tip, not 0 where it is in the set
+
+#[no_mangle]
+pub extern "C" fn rove_is_monophyletic(
+    pairs: &[u16],
+    parents: &[u16],
+    heights: &[f64],
+    members: &[u8],
+    words: &mut [u64],
+) -> u64
+    ensures { λ r. ⌜ written r (now (words .exit)) ≡ monophylyExported (now (pairs .entry)) (now (parents .entry)) (now (heights .entry)) (now (members .entry)) (now (words .entry)) ⌝ }
+{
+    if record::is_record(words) {
+        let root = record::root(words);
+        let monophyly = marks::is_monophyletic(pairs, parents, heights, root, members);
+        return record_parameters::put_monophyly(words, monophyly);
+    }
+    NO_RECORD
+}
+
+#[no_mangle]
+pub extern "C" fn rove_clade_age(
+    pairs: &[u16],
+    parents: &[u16],
+    heights: &[f64],
+    members: &[u8],
+    words: &mut [u64],
+) -> u64
+    ensures { λ r. ⌜ written r (now (words .exit)) ≡ ageExported (now (pairs .entry)) (now (parents .entry)) (now (heights .entry)) (now (members .entry)) (now (words .entry)) ⌝ }
+{
+    if record::is_record(words) {
+        let root = record::root(words);
+        let age = marks::clade_age(pairs, parents, heights, root, members);
+        return record_parameters::put_age(words, age);
     }
     NO_RECORD
 }

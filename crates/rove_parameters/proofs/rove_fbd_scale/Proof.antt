@@ -1,6 +1,7 @@
 -- `rove_parameters::rove_fbd_scale` meets its contract. Assumes nothing.
 use borrow.Author.Needs.{needs}
 use Rattle.rove_parameters.proofs.ProposalLaws.{proposalLaws}
+use Rattle.rove_parameters.proofs.RecordLaws.{recordLaws}
 use Rattle.rove_parameters.proofs.rove_fbd_scale.Statement.{statement}
 use Rattle.rove_parameters.proofs.rove_fbd_scale.Tie as tie
 
@@ -20,7 +21,7 @@ same-length : tie.Need-same-length
 same-length c = search needs
 
 returns : tie.Need-returns
-returns c = search (proposalLaws, needs)
+returns c = search (recordLaws, proposalLaws, needs)
 
 enum-told : tie.Need-enum-told
 enum-told c = search needs
@@ -32,13 +33,13 @@ same-length-2 : tie.Need-same-length-2
 same-length-2 c = search needs
 
 returns-2 : tie.Need-returns-2
-returns-2 c = search (proposalLaws, needs)
+returns-2 c = search (recordLaws, proposalLaws, needs)
 
 same-length-3 : tie.Need-same-length-3
 same-length-3 c = search needs
 
 returns-3 : tie.Need-returns-3
-returns-3 c = search (proposalLaws, needs)
+returns-3 c = search (recordLaws, proposalLaws, needs)
 
 pub rove-fbd-scale-spec : {M : Type 1} → statement M
 rove-fbd-scale-spec =

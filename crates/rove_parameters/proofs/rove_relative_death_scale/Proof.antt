@@ -1,6 +1,7 @@
 -- `rove_parameters::rove_relative_death_scale` meets its contract. Assumes nothing.
 use borrow.Author.Needs.{needs}
 use Rattle.rove_parameters.proofs.ProposalLaws.{proposalLaws}
+use Rattle.rove_parameters.proofs.RecordLaws.{recordLaws}
 use Rattle.rove_parameters.proofs.rove_relative_death_scale.Statement.{statement}
 use Rattle.rove_parameters.proofs.rove_relative_death_scale.Tie as tie
 
@@ -29,13 +30,13 @@ same-length : tie.Need-same-length
 same-length c = search needs
 
 returns : tie.Need-returns
-returns c = search (proposalLaws, needs)
+returns c = search (recordLaws, proposalLaws, needs)
 
 same-length-2 : tie.Need-same-length-2
 same-length-2 c = search needs
 
 returns-2 : tie.Need-returns-2
-returns-2 c = search (proposalLaws, needs)
+returns-2 c = search (recordLaws, proposalLaws, needs)
 
 pub rove-relative-death-scale-spec : {M : Type 1} → statement M
 rove-relative-death-scale-spec =
