@@ -20,7 +20,7 @@ use Rattle.record.specs.Record.{wordIn, allowanceIn}
 
 -- ---- two allowances outside the limits
 
-and-false : (b c : Bool) → c ≡ false → b && c ≡ false
+pub and-false : (b c : Bool) → c ≡ false → b && c ≡ false
 and-false true c e = e
 and-false false c e = refl
 
@@ -41,7 +41,7 @@ below-outside g n a b p q = rw (and-false (countable n) (allowed a) p, and-false
 
 module _ (words : List ℕ) where
   -- what does not tell two allowances outside the limits apart does not tell these two apart
-  same : {B : Type 0} (f : ℕ → B) → ((a b : ℕ) → allowed a ≡ false → allowed b ≡ false → f a ≡ f b) → f (allowanceIn words) ≡ f (wordIn words 5)
+  pub same : {B : Type 0} (f : ℕ → B) → ((a b : ℕ) → allowed a ≡ false → allowed b ≡ false → f a ≡ f b) → f (allowanceIn words) ≡ f (wordIn words 5)
   same {B} f h = go (wordIn words 5)
     where
       go : (w : ℕ) → f (cond (ltb 65535 w) 0 w) ≡ f w

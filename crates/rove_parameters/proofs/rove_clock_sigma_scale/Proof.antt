@@ -1,0 +1,55 @@
+-- `rove_parameters::rove_clock_sigma_scale` meets its contract. Assumes nothing.
+use borrow.Author.Needs.{needs}
+use Rattle.rove_parameters.proofs.ProposalLaws.{proposalLaws}
+use Rattle.rove_parameters.proofs.RecordLaws.{recordLaws}
+use Rattle.rove_parameters.proofs.rove_clock_sigma_scale.Statement.{statement}
+use Rattle.rove_parameters.proofs.rove_clock_sigma_scale.Tie as tie
+
+is-record-requires : tie.Need-is-record-requires
+is-record-requires c κs = search needs
+
+optional-requires : tie.Need-optional-requires
+optional-requires c κs = search needs
+
+tuning-requires : tie.Need-tuning-requires
+tuning-requires c κs = search needs
+
+generator-requires : tie.Need-generator-requires
+generator-requires c κs = search needs
+
+allowance-requires : tie.Need-allowance-requires
+allowance-requires c κs = search needs
+
+clock-sigma-scale-requires : tie.Need-clock-sigma-scale-requires
+clock-sigma-scale-requires c κs = search needs
+
+put-optional-scaled-requires : tie.Need-put-optional-scaled-requires
+put-optional-scaled-requires c κs = search needs
+
+same-length : tie.Need-same-length
+same-length c = search needs
+
+returns : tie.Need-returns
+returns c = search (recordLaws, proposalLaws, needs)
+
+same-length-2 : tie.Need-same-length-2
+same-length-2 c = search needs
+
+returns-2 : tie.Need-returns-2
+returns-2 c = search (recordLaws, proposalLaws, needs)
+
+pub rove-clock-sigma-scale-spec : {M : Type 1} → statement M
+rove-clock-sigma-scale-spec =
+    tie.close
+    (tie.spec
+    is-record-requires
+    optional-requires
+    tuning-requires
+    generator-requires
+    allowance-requires
+    clock-sigma-scale-requires
+    put-optional-scaled-requires
+    same-length
+    returns
+    same-length-2
+    returns-2)

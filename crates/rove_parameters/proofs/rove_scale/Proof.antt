@@ -1,0 +1,59 @@
+-- `rove_parameters::rove_scale` meets its contract. Assumes nothing.
+use borrow.Author.Needs.{needs}
+use Rattle.rove_parameters.proofs.ProposalLaws.{proposalLaws}
+use Rattle.rove_parameters.proofs.RecordLaws.{recordLaws}
+use Rattle.rove_parameters.proofs.rove_scale.Statement.{statement}
+use Rattle.rove_parameters.proofs.rove_scale.Tie as tie
+
+is-record-requires : tie.Need-is-record-requires
+is-record-requires c κs = search needs
+
+real-at-requires : tie.Need-real-at-requires
+real-at-requires c κs = search needs
+
+real-at-requires-2 : tie.Need-real-at-requires-2
+real-at-requires-2 c κs = search needs
+
+tuning-requires : tie.Need-tuning-requires
+tuning-requires c κs = search needs
+
+generator-requires : tie.Need-generator-requires
+generator-requires c κs = search needs
+
+allowance-requires : tie.Need-allowance-requires
+allowance-requires c κs = search needs
+
+scale-requires : tie.Need-scale-requires
+scale-requires c κs = search needs
+
+put-scaled-requires : tie.Need-put-scaled-requires
+put-scaled-requires c κs = search needs
+
+same-length : tie.Need-same-length
+same-length c = search needs
+
+returns : tie.Need-returns
+returns c = search (recordLaws, proposalLaws, needs)
+
+same-length-2 : tie.Need-same-length-2
+same-length-2 c = search needs
+
+returns-2 : tie.Need-returns-2
+returns-2 c = search (recordLaws, proposalLaws, needs)
+
+pub rove-scale-spec : {M : Type 1} → statement M
+rove-scale-spec =
+    tie.close
+    (tie.spec
+    is-record-requires
+    real-at-requires
+    real-at-requires-2
+    tuning-requires
+    generator-requires
+    allowance-requires
+    scale-requires
+    put-scaled-requires
+    same-length
+    returns
+    same-length-2
+    returns-2)

@@ -1,0 +1,47 @@
+-- `rove_parameters::rove_set_sigma` meets its contract. Assumes nothing.
+use borrow.Author.Needs.{needs}
+use Rattle.rove_parameters.proofs.AskLaws.{clockLaws}
+use Rattle.rove_parameters.proofs.RecordLaws.{recordLaws}
+use Rattle.rove_parameters.proofs.rove_set_sigma.Statement.{statement}
+use Rattle.rove_parameters.proofs.rove_set_sigma.Tie as tie
+
+is-record-requires : tie.Need-is-record-requires
+is-record-requires c κs = search needs
+
+real-at-requires : tie.Need-real-at-requires
+real-at-requires c κs = search needs
+
+real-at-requires-2 : tie.Need-real-at-requires-2
+real-at-requires-2 c κs = search needs
+
+set-sigma-requires : tie.Need-set-sigma-requires
+set-sigma-requires c κs = search needs
+
+put-sigma-requires : tie.Need-put-sigma-requires
+put-sigma-requires c κs = search needs
+
+same-length : tie.Need-same-length
+same-length c = search needs
+
+returns : tie.Need-returns
+returns c = search (recordLaws, clockLaws, needs)
+
+same-length-2 : tie.Need-same-length-2
+same-length-2 c = search needs
+
+returns-2 : tie.Need-returns-2
+returns-2 c = search (recordLaws, clockLaws, needs)
+
+pub rove-set-sigma-spec : {M : Type 1} → statement M
+rove-set-sigma-spec =
+    tie.close
+    (tie.spec
+    is-record-requires
+    real-at-requires
+    real-at-requires-2
+    set-sigma-requires
+    put-sigma-requires
+    same-length
+    returns
+    same-length-2
+    returns-2)

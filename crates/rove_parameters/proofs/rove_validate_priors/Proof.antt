@@ -1,0 +1,43 @@
+-- `rove_parameters::rove_validate_priors` meets its contract. Assumes nothing.
+use borrow.Author.Needs.{needs}
+use Rattle.rove_parameters.proofs.AskLaws.{clockLaws}
+use Rattle.rove_parameters.proofs.RecordLaws.{recordLaws}
+use Rattle.rove_parameters.proofs.rove_validate_priors.Statement.{statement}
+use Rattle.rove_parameters.proofs.rove_validate_priors.Tie as tie
+
+is-record-requires : tie.Need-is-record-requires
+is-record-requires c κs = search needs
+
+priors-requires : tie.Need-priors-requires
+priors-requires c κs = search needs
+
+validate-requires : tie.Need-validate-requires
+validate-requires c κs = search needs
+
+put-verdict-requires : tie.Need-put-verdict-requires
+put-verdict-requires c κs = search needs
+
+same-length : tie.Need-same-length
+same-length c = search needs
+
+returns : tie.Need-returns
+returns c = search (recordLaws, clockLaws, needs)
+
+same-length-2 : tie.Need-same-length-2
+same-length-2 c = search needs
+
+returns-2 : tie.Need-returns-2
+returns-2 c = search (recordLaws, clockLaws, needs)
+
+pub rove-validate-priors-spec : {M : Type 1} → statement M
+rove-validate-priors-spec =
+    tie.close
+    (tie.spec
+    is-record-requires
+    priors-requires
+    validate-requires
+    put-verdict-requires
+    same-length
+    returns
+    same-length-2
+    returns-2)
