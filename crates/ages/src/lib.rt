@@ -171,7 +171,7 @@ pub fn check(
     let nodes = pairs.len() / 2;
     let tips = tips(nodes);
     if is_sized(minima, maxima, tips) {
-        match tree::validate(pairs, parents, heights, root) {
+        match quick::validate(pairs, parents, heights, root) {
             Verdict::Refused(why) => {
                 return Verdict::Refused(why);
             }

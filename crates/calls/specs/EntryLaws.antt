@@ -1,28 +1,28 @@
--- For the entry points of the moves. Each checks, makes its turn and answers: what a check that passed gives to the turn
--- (`entry-valid`), what a turn gives to the answer (`entry-left`), and that what is answered is the call (`entry-refused`, `entry-done`).
--- Assumes nothing.
+-- For the entry points of the moves. A checked one validates the tree and goes on as the unvalidated one of its name, which tests the limits,
+-- makes its turn and answers. In order: what a check that passed has passed (`passed`); a tree that was validated (`tree-refused`, and for tree
+-- moves `entryLaws`); and an accepted tree, whose limits were tested (`accepted-checked`, `limits-refused`, `limits-passed`, and for tree moves
+-- `unvalidatedLaws`). Assumes nothing.
 use mathlib.Core.Path.{_≡_, refl, sym, ap, _∙_}
 use mathlib.Core.Bool.{Bool, true, false, _&&_, cond, and-eq-true-iff}
 use mathlib.Core.List.{List}
-use Prim.Native.Nat.{ℕ, _≤_}
+use Prim.Native.Nat.{ℕ}
 use native.Mathlib.Omega.{arith}
 use lib.Ieee.{Float}
 use Rattle.answer.specs.declared.Refusal.{Refusal}
 use Rattle.answer.specs.declared.Refusal.the-variants.{Parameter}
 use Rattle.random.specs.declared.Random.{Random}
-use Rattle.random.specs.declared.Supply.{Supply}
 use Rattle.random.specs.Draw.{Draw, Drawn, spent, got, run, supplyOf, allowed}
-use Rattle.random.specs.DrawLaws.{run-lawful}
 use Rattle.tree.specs.declared.Verdict.{Verdict}
 use Rattle.tree.specs.declared.Verdict.the-variants as Verdicts
 use Rattle.tree.specs.Tree.{Tree, nodesOf}
-use Rattle.tree.specs.New.{validated}
+use Rattle.tree.specs.New.{Accepted, validated}
 use Rattle.tree.specs.Valid.{Valid}
 use Rattle.tree.specs.Given.{treeOf}
-use Rattle.accepted.specs.ValidatedLaws.{fine-valid}
+use Rattle.accepted.specs.AcceptedLaws.{accepted-valid, valid-accepted}
+use Rattle.accepted.specs.ValidatedLaws.{fine-valid, valid-fine}
 use Rattle.calls.specs.declared.Answered.{Answered}
 use Rattle.calls.specs.declared.Turn.{Turn}
-use Rattle.calls.specs.Call.{Reply, makes, notFinite, outside, Outcome, declined, moved, ended, andThen, checked, callOf, Called, called, leaves, treeCall}
+use Rattle.calls.specs.Call.{Reply, makes, notFinite, outside, Outcome, declined, moved, refused, ended, andThen, limited, checked, callOf, Called, called, leaves, treeCall}
 use Rattle.calls.specs.Given.{After, after, turnOf, turnedBack, answeredOf}
 
 -- ---- a check that passed
@@ -43,46 +43,60 @@ passed limits t allowance = go (validated t) refl (limits && allowed allowance) 
     go Verdicts.Fine e false f h = let z : _≡_ {A = ℕ} 0 1 = cc in absurd (omega arith)
     go (Verdicts.Refused why) e b f h = let z : _≡_ {A = ℕ} 0 1 = cc in absurd (omega arith)
 
--- v is what the check said
-module _ (limits : Bool) (pairs parents : List ℕ) (heights : List Float) (root allowance : ℕ) (v : Verdict)
-    (e : v ≡ checked limits (treeOf pairs parents heights root) allowance) where
-  abbrev t : Tree
-  t = treeOf pairs parents heights root
+-- ---- a tree that was validated
 
-  -- so that the turn is given a valid tree
-  pub entry-valid : v ≡ Verdicts.Fine → Valid (nodesOf pairs) (treeOf pairs parents heights root)
-  entry-valid y = fine-valid t (passed limits t allowance (sym e ∙ y) .tree)
+-- v is what was said of it
+module _ (pairs parents : List ℕ) (heights : List Float) (root : ℕ) (v : Verdict) (e : v ≡ validated (treeOf pairs parents heights root)) where
+  abbrev given : Tree
+  given = treeOf pairs parents heights root
 
-  -- what is answered where the check refuses is the call
-  pub entry-refused : (g : Random) (program : Draw (Reply Outcome)) (why : Refusal) → v ≡ Verdicts.Refused why → (r : Answered) → r ≡ turnedBack why g
-      → called (r .answer) (r .random) pairs parents heights ≡ treeCall limits program (treeOf pairs parents heights root) g allowance
-  unfolding treeCall callOf leaves
-  entry-refused g program why y r er = rw (er, ← e, y)
+  -- what is refused there is what the call refuses
+  pub tree-refused : {A : Type 0} (limits : Bool) (program : Draw (Reply A)) (g : Random) (allowance : ℕ) (why : Refusal) → v ≡ Verdicts.Refused why
+      → callOf limits program given g allowance ≡ refused why
+  unfolding callOf checked
+  tree-refused limits program g allowance why y = rw (← e, y)
+
+  -- what is fine is accepted
+  pub tree-accepted : v ≡ Verdicts.Fine → Accepted (treeOf pairs parents heights root)
+  tree-accepted y = valid-accepted (nodesOf pairs) given (fine-valid given (sym e ∙ y))
+
+  module _ (limits : Bool) (program : Draw (Reply Outcome)) (g : Random) (allowance : ℕ) where
+    -- what is answered where the tree is refused is the call
+    pub entry-refused : (why : Refusal) → v ≡ Verdicts.Refused why → (r : Answered) → r ≡ turnedBack why g
+        → called (r .answer) (r .random) pairs parents heights ≡ treeCall limits program (treeOf pairs parents heights root) g allowance
+    unfolding treeCall leaves
+    entry-refused why y r er = rw (er, tree-refused limits program g allowance why y)
+
+    -- and where it is fine, what the unvalidated call of an accepted tree leaves
+    pub entry-done : v ≡ Verdicts.Fine → (c : Called) → (Accepted (treeOf pairs parents heights root) → c ≡ treeCall limits program (treeOf pairs parents heights root) g allowance)
+        → c ≡ treeCall limits program (treeOf pairs parents heights root) g allowance
+    entry-done y c f = f (tree-accepted y)
+
+pub ruleset entryLaws = (entry-refused, entry-done)
+
+-- ---- an accepted tree
+
+-- its call is checked for its limits alone
+pub accepted-checked : (t : Tree) → Accepted t → (limits : Bool) (allowance : ℕ) → checked limits t allowance ≡ limited limits allowance
+unfolding checked
+accepted-checked t h limits allowance = rw (valid-fine (nodesOf (t .pairs)) t (accepted-valid t h))
+
+-- v is what was said of the limits
+module _ (t : Tree) (h : Accepted t) (limits : Bool) (allowance : ℕ) (v : Verdict) (e : v ≡ limited limits allowance) where
+  -- what is refused there is what the call refuses
+  pub limits-refused : {A : Type 0} (program : Draw (Reply A)) (g : Random) (why : Refusal) → v ≡ Verdicts.Refused why → callOf limits program t g allowance ≡ refused why
+  unfolding callOf
+  limits-refused program g why y = rw (accepted-checked t h limits allowance, ← e, y)
+
+  -- past them the call is what its program's run ends in
+  pub limits-passed : {A : Type 0} (program : Draw (Reply A)) (g : Random) → v ≡ Verdicts.Fine
+      → callOf limits program t g allowance ≡ ended allowance (run program (supplyOf g allowance))
+  unfolding callOf
+  limits-passed program g y = rw (accepted-checked t h limits allowance, ← e, y)
 
 -- ---- a turn on the tree t, from the call's supply
 
 module _ (t : Tree) (g : Random) (allowance : ℕ) (turn : Turn) (pairs parents : List ℕ) (heights : List Float) where
-  left-of : (program : Draw (Reply Outcome)) (d : Drawn (Reply Outcome)) → run program (supplyOf g allowance) ≡ d → after turn pairs parents heights ≡ turnOf t (supplyOf g allowance) d → turn .supply .left ≤ allowance
-  unfolding turnOf
-  left-of program = go
-    where
-      drawn : (a : Reply Outcome) (u : Supply) → run program (supplyOf g allowance) ≡ got a u → u .left ≤ allowance
-      drawn a u p = run-lawful program .steps (supplyOf g allowance) a u p .fewer
-
-      same : (u : Supply) → turn .supply ≡ u → u .left ≤ allowance → turn .supply .left ≤ allowance
-      same u q h = rw q h
-
-      go : (d : Drawn (Reply Outcome)) → run program (supplyOf g allowance) ≡ d → after turn pairs parents heights ≡ turnOf t (supplyOf g allowance) d → turn .supply .left ≤ allowance
-      go spent f e = same (supplyOf g allowance) (ap (λ (a : After). a .supply) e) (omega arith)
-      go (got (notFinite k) u) f e = same u (ap (λ (a : After). a .supply) e) (drawn (notFinite k) u f)
-      go (got (outside k) u) f e = same u (ap (λ (a : After). a .supply) e) (drawn (outside k) u f)
-      go (got (makes declined) u) f e = same u (ap (λ (a : After). a .supply) e) (drawn (makes declined) u f)
-      go (got (makes (moved w r)) u) f e = same u (ap (λ (a : After). a .supply) e) (drawn (makes (moved w r)) u f)
-
-  -- no more draws are left after a turn than were allowed
-  pub entry-left : (program : Draw (Reply Outcome)) → after turn pairs parents heights ≡ turnOf t (supplyOf g allowance) (run program (supplyOf g allowance)) → turn .supply .left ≤ allowance
-  entry-left program = left-of program (run program (supplyOf g allowance)) refl
-
   -- the call, from what its turn leaves
   answering : After → Called
   answering a = let r = answeredOf (a .turned) (a .supply) g allowance in called (r .answer) (r .random) (a .pairs) (a .parents) (a .heights)
@@ -102,12 +116,30 @@ module _ (t : Tree) (g : Random) (allowance : ℕ) (turn : Turn) (pairs parents 
   unfolding answering
   answered-run program e r er = rw er (ap answering e ∙ settled (run program (supplyOf g allowance)))
 
-  -- so that it is the call
-  pub entry-done : (limits : Bool) (program : Draw (Reply Outcome)) (v : Verdict) → v ≡ checked limits t allowance → v ≡ Verdicts.Fine
-      → after turn pairs parents heights ≡ turnOf t (supplyOf g allowance) (run program (supplyOf g allowance))
-      → (r : Answered) → r ≡ answeredOf (turn .turned) (turn .supply) g allowance
-      → called (r .answer) (r .random) pairs parents heights ≡ treeCall limits program t g allowance
-  unfolding treeCall callOf
-  entry-done limits program v ev y e r er = rw (← ev, y) (answered-run program e r er)
+-- ---- the unvalidated call
 
-pub ruleset entryLaws = (entry-valid, entry-refused, entry-left, entry-done)
+-- b is whether the parameters are within their limits, and v what was said of it
+module _ (pairs parents : List ℕ) (heights : List Float) (root : ℕ) (h : Accepted (treeOf pairs parents heights root)) (limits b : Bool) (eb : b ≡ limits)
+    (allowance : ℕ) (v : Verdict) (ev : v ≡ limited b allowance) (program : Draw (Reply Outcome)) (g : Random) where
+  abbrev lent : Tree
+  lent = treeOf pairs parents heights root
+
+  e : v ≡ limited limits allowance
+  e = ev ∙ ap (λ (x : Bool). limited x allowance) eb
+
+  -- what is answered where the limits are refused is the call
+  pub unvalidated-refused : (why : Refusal) → v ≡ Verdicts.Refused why → (r : Answered) → r ≡ turnedBack why g
+      → called (r .answer) (r .random) pairs parents heights ≡ treeCall limits program (treeOf pairs parents heights root) g allowance
+  unfolding treeCall leaves
+  unvalidated-refused why y r er = rw (er, limits-refused lent h limits allowance v e program g why y)
+
+  -- and what is answered after the turn, which a valid tree gives
+  pub unvalidated-done : v ≡ Verdicts.Fine → (turn : Turn) (ps qs : List ℕ) (hs : List Float)
+      → (Valid (nodesOf pairs) (treeOf pairs parents heights root) → after turn ps qs hs ≡ turnOf (treeOf pairs parents heights root) (supplyOf g allowance) (run program (supplyOf g allowance)))
+      → (r : Answered) → r ≡ answeredOf (turn .turned) (turn .supply) g allowance
+      → called (r .answer) (r .random) ps qs hs ≡ treeCall limits program (treeOf pairs parents heights root) g allowance
+  unfolding treeCall
+  unvalidated-done y turn ps qs hs f r er =
+      rw (limits-passed lent h limits allowance v e program g y) (answered-run lent g allowance turn ps qs hs program (f (accepted-valid lent h)) r er)
+
+pub ruleset unvalidatedLaws = (unvalidated-refused, unvalidated-done)

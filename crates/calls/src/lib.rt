@@ -1,12 +1,12 @@
-// What the calls of the moves share: the checks before a move, its answer afterwards, and the draws and floats that several moves make. A
-// move is a turn: a function that takes a tree and parameters that have been checked, with a supply, and ends as moved, as declined, or in what
-// refuses the call. Assumes nothing.
+// What the calls of the moves share: the check of the limits before a move, its answer afterwards, and the draws and floats that several moves
+// make. A move is a turn: a function that takes a tree and a supply, and ends as moved, as declined, or in what refuses the call. Each move has
+// two entry points: one validates its tree, the other, unvalidated, leaves that to a host whose tree was accepted and has only been changed by
+// these calls; neither asks anything. Assumes nothing.
 ghost use mathlib.Core.Path.{_≡_};
-ghost use Prim.Native.Nat.{_≤_};
+ghost use Prim.Native.Nat.{_-_};
 ghost use Rattle.random.specs.Draw.{pick, drawnNumber};
-ghost use Rattle.tree.specs.Given.{treeOf};
 ghost use Rattle.rules.specs.Rules.{oneInternal, within};
-ghost use Rattle.calls.specs.Call.{checked};
+ghost use Rattle.calls.specs.Call.{limited};
 ghost use Rattle.calls.specs.Draws.{nonRoot, internal, scaler, tuned};
 ghost use Rattle.calls.specs.Given.{turnedBack, answeredOf, heightOf};
 use answer::Answer;
@@ -48,41 +48,36 @@ pub enum Height {
     Outside,
 }
 
-// Whether the call may go on: the tree first, then whether the parameters are within their limits and the allowance is.
-pub fn check(
-    pairs: &[u16],
-    parents: &[u16],
-    heights: &[f64],
-    root: usize,
-    limits: bool,
-    allowance: u32,
-) -> Verdict
-    ensures { λ r. ⌜ r ≡ checked limits (treeOf (now (pairs .entry)) (now (parents .entry)) (now (heights .entry)) root) allowance ⌝ }
+// Whether the call may go on, once its tree is checked: its parameters are within their limits, and the allowance is.
+pub fn check_limits(limits: bool, allowance: u32) -> Verdict
+    ensures { λ r. ⌜ r ≡ limited limits allowance ⌝ }
 {
-    match tree::validate(pairs, parents, heights, root) {
-        Verdict::Fine => {
-            if limits {
-                if random::is_allowed(allowance) {
-                    return Verdict::Fine;
-                }
-                return Verdict::Refused(Refusal::Parameter(0));
-            }
-            return Verdict::Refused(Refusal::Parameter(0));
+    if limits {
+        if random::is_allowed(allowance) {
+            return Verdict::Fine;
         }
-        Verdict::Refused(why) => {
-            return Verdict::Refused(why);
-        }
+        return Verdict::Refused(Refusal::Parameter(0));
     }
+    Verdict::Refused(Refusal::Parameter(0))
+}
+
+// The draws made, of those allowed and those left; none where more are left.
+fn draws_made(allowance: u32, left: u32) -> u32
+    ensures { λ r. ⌜ r ≡ allowance - left ⌝ }
+{
+    if left < allowance {
+        return allowance - left;
+    }
+    0
 }
 
 // The call's answer, from its turn and the generator as it came.
 pub fn answer(turn: Turn, random: Random, allowance: u32) -> Answered
-    requires { ⌜ turn .supply .left ≤ allowance ⌝ }
     ensures { λ r. ⌜ r ≡ answeredOf (turn .turned) (turn .supply) random allowance ⌝ }
 {
     let supply = turn.supply;
     let after = supply.random;
-    let draws = allowance - supply.left;
+    let draws = draws_made(allowance, supply.left);
     let turned = turn.turned;
     match turned {
         Turned::Moved(root, ratio) => {

@@ -148,7 +148,7 @@ pub fn is_monophyletic_in(
 {
     let n = pairs.len() / 2;
     if members.len() == (n + 1) / 2 {
-        match tree::validate(pairs, parents, heights, root) {
+        match quick::validate(pairs, parents, heights, root) {
             Verdict::Fine => {
                 return Monophyly::Is(first_node(pairs, root, members, 65536, size(members)) < n);
             }
@@ -172,7 +172,7 @@ pub fn clade_age(
 {
     let n = pairs.len() / 2;
     if members.len() == (n + 1) / 2 {
-        match tree::validate(pairs, parents, heights, root) {
+        match quick::validate(pairs, parents, heights, root) {
             Verdict::Fine => {
                 let size = size(members);
                 if size == 0 {

@@ -1,11 +1,10 @@
 -- The ways through TipAge: the interval that is left to a tip (`intervalLaws`), a height for the tip (`ageTipLaws`), the turn (`tipAgeLaws`), the
 -- limits (`limitedLaws`), and the call (`proposeLaws`). Assumes nothing.
-use mathlib.Core.Path.{_≡_, sym, _∙_}
+use mathlib.Core.Path.{_≡_}
 use mathlib.Core.Bool.{Bool, true, false, _&&_}
 use mathlib.Core.List.{List}
-use Prim.Native.Nat.{ℕ, _<_}
-use native.Mathlib.Omega.{arith}
-use lib.ListN.{length, getD, set}
+use Prim.Native.Nat.{ℕ}
+use lib.ListN.{getD, set}
 use lib.Ieee.{Float, nan, le}
 use Rattle.answer.specs.declared.Refusal.{Refusal}
 use Rattle.answer.specs.declared.Ratio.the-variants.{Even}
@@ -14,17 +13,14 @@ use Rattle.random.specs.declared.Supply.{Supply}
 use Rattle.random.specs.declared.DrawnNumber.{DrawnNumber}
 use Rattle.random.specs.declared.DrawnReal.{DrawnReal}
 use Rattle.random.specs.Draw.{below, uniform, pick, run, drawnNumber, drawnReal, supplyOf, allowed}
-use Rattle.random.specs.DrawLaws.{draw-got, draw-spent, below-yields}
+use Rattle.random.specs.DrawLaws.{draw-got, draw-spent}
 use Rattle.random.specs.SupplyLaws.{number-got, number-spent}
 use Rattle.real.specs.Real.{minOf}
 use Rattle.tree.specs.declared.Verdict.{Verdict}
 use Rattle.tree.specs.declared.Verdict.the-variants as Verdicts
 use Rattle.tree.specs.Tree.{Tree, nodesOf, tipsOf, parent, height}
-use Rattle.tree.specs.Valid.{Valid}
 use Rattle.tree.specs.Given.{treeOf}
-use Rattle.accepted.specs.ValidatedLaws.{fine-valid}
 use Rattle.edits.specs.Slots.{setHeight}
-use Rattle.edits.specs.NeedsLaws.{valid-height}
 use Rattle.rules.specs.Rules.{ceiling, tipAgeDeclines, tipMoved}
 use Rattle.calls.specs.declared.Answered.{Answered}
 use Rattle.calls.specs.declared.Height.{Height}
@@ -33,7 +29,7 @@ use Rattle.calls.specs.declared.Turn.{Turn}
 use Rattle.calls.specs.declared.Turned.the-variants as Turns
 use Rattle.calls.specs.Call.{Outcome, moved, Called, called, leaves}
 use Rattle.calls.specs.Given.{after, afterOn, turnOf, turnedBack, answeredOf, heightOf}
-use Rattle.calls.specs.EntryLaws.{entry-left, answered-run}
+use Rattle.calls.specs.EntryLaws.{answered-run}
 use Rattle.calls.specs.HeightLaws.{height-spent, height-inside, height-outside}
 use Rattle.process.specs.declared.FossilizedBirthDeath.{FossilizedBirthDeath}
 use Rattle.process.specs.Process.{processFinite}
@@ -41,7 +37,6 @@ use Rattle.ages.specs.declared.TipAge.{TipAge}
 use Rattle.ages.specs.Ages.{ageOf, atFault, Undecided, tableChecked}
 use Rattle.dating.specs.TipAge.{ageing, tipAge, agesChecked, tipAgeCall}
 use Rattle.dating.specs.Given.{leftTo}
-use Rattle.ages.specs.CheckedLaws.{passed}
 
 -- ---- the interval
 
@@ -104,12 +99,6 @@ module _ (minima maxima : List Float) (pairs parents : List ℕ) (hs : List Floa
   drawn : d ≡ drawnNumber s (pick (below (tipsOf (nodesOf pairs))) s)
   drawn = rw (← em) e
 
-  pub turn-tip : Valid (nodesOf pairs) (treeOf pairs parents hs root) → d .ok ≡ true → d .value < length hs
-  turn-tip v f =
-      let y = below-yields (tipsOf (nodesOf pairs)) s (d .value) (d .supply) (number-got s d _ drawn f) in
-      let few = v .sized .few in
-      valid-height v (d .value) (omega arith)
-
   pub turn-spent : d .ok ≡ false → afterOn Turns.Spent s t ≡ turnOf t s (run (tipAge minima maxima t) s)
   unfolding tipAge turnOf
   turn-spent f = rw (draw-spent _ _ s (number-spent s d _ drawn f))
@@ -120,7 +109,7 @@ module _ (minima maxima : List Float) (pairs parents : List ℕ) (hs : List Floa
   unfolding tipAge
   turn-aged f a ea r new er = rw (er pairs, ea, draw-got _ _ s (d .value) (d .supply) (number-got s d _ drawn f))
 
-pub ruleset tipAgeLaws = (turn-tip, turn-spent, turn-aged)
+pub ruleset tipAgeLaws = (turn-spent, turn-aged)
 
 -- ---- the limits and the call
 
@@ -153,15 +142,11 @@ module _ (p : FossilizedBirthDeath) (minima maxima : List Float) (pairs parents 
   unfolding tipAgeCall leaves
   propose-refused why y r er = record { verdict = u .verdict; judged = u .judged; is = rw (← same, y, er) }
 
-  module _ (y : v ≡ Verdicts.Fine) where
-    pub propose-valid : Valid (nodesOf pairs) tree
-    propose-valid = fine-valid tree (passed minima maxima tree limits (u .verdict) (sym (u .is) ∙ y) .tree)
+  pub propose-done : v ≡ Verdicts.Fine → (turn : Turn) (new : List Float)
+      → after turn pairs parents new ≡ turnOf tree (supplyOf g allowance) (run (tipAge minima maxima tree) (supplyOf g allowance))
+      → (r : Answered) → r ≡ answeredOf (turn .turned) (turn .supply) g allowance → Leaves (called (r .answer) (r .random) pairs parents new)
+  unfolding tipAgeCall
+  propose-done y turn new e r er =
+      record { verdict = u .verdict; judged = u .judged; is = rw (← same, y) (answered-run tree g allowance turn pairs parents new (tipAge minima maxima tree) e r er) }
 
-    pub propose-done : (turn : Turn) (new : List Float)
-        → after turn pairs parents new ≡ turnOf tree (supplyOf g allowance) (run (tipAge minima maxima tree) (supplyOf g allowance))
-        → (r : Answered) → r ≡ answeredOf (turn .turned) (turn .supply) g allowance → Leaves (called (r .answer) (r .random) pairs parents new)
-    unfolding tipAgeCall
-    propose-done turn new e r er =
-        record { verdict = u .verdict; judged = u .judged; is = rw (← same, y) (answered-run tree g allowance turn pairs parents new (tipAge minima maxima tree) e r er) }
-
-pub ruleset proposeLaws = (propose-refused, propose-valid, entry-left, propose-done)
+pub ruleset proposeLaws = (propose-refused, propose-done)

@@ -7,7 +7,6 @@ ghost use lib.ListN.{length, getD};
 ghost use lib.Ieee.{nan};
 ghost use Rattle.random.specs.Draw.{run, allowed};
 ghost use Rattle.tree.specs.Tree.{nodesOf, tipsOf};
-ghost use Rattle.tree.specs.Valid.{Valid};
 ghost use Rattle.tree.specs.Given.{treeOf, kinIn};
 ghost use Rattle.calls.specs.declared.Turned.the-variants as Turns;
 ghost use Rattle.calls.specs.Call.{called};
@@ -200,7 +199,6 @@ fn age_tip(
     between: Supply,
     s: Supply,
 ) -> Turn
-    requires { ⌜ tip < length (now heights) ⌝ }
     ensures { λ r. ⌜ ((pairs : List ℕ) → after r pairs (now (parents .entry)) (now (heights .exit)) ≡ turnOf (treeOf pairs (now (parents .entry)) (now (heights .entry)) root) s (run (ageing (treeOf pairs (now (parents .entry)) (now (heights .entry)) root) tip age) between)) ⌝ }
 {
     let left = interval(age, reads::height(heights, reads::parent(parents, tip)));
@@ -242,7 +240,6 @@ fn propose_age_turn(
     maxima: &[f64],
     s: Supply,
 ) -> Turn
-    requires { ⌜ Valid (nodesOf (now pairs)) (treeOf (now pairs) (now parents) (now heights) root) ⌝ }
     ensures { λ r. ⌜ after r (now (pairs .entry)) (now (parents .entry)) (now (heights .exit)) ≡ turnOf (treeOf (now (pairs .entry)) (now (parents .entry)) (now (heights .entry)) root) s (run (tipAge (now (minima .entry)) (now (maxima .entry)) (treeOf (now (pairs .entry)) (now (parents .entry)) (now (heights .entry)) root)) s) ⌝ }
 {
     let d = s.below(ages::tips(pairs.len() / 2));

@@ -34,62 +34,49 @@ takes pairs parents p q root c x k s e l m K =
     let w : slotOf (nodesOf pairs) (bare pairs parents root) c ≤ length pairs = within pairs parents root c s in
     record { few = omega arith; twice = omega arith; slot = omega arith; node = omega arith }
 
-pub takes-first : (pairs parents : List ℕ) (root c x k : ℕ) → Stands pairs parents root c → At pairs parents root c x → k < length parents → Takes pairs parents x k
-takes-first pairs parents root c x k s e K = takes pairs parents pairs parents root c x k s e refl refl K
-
 -- after a node was put somewhere, there are as many nodes
 as-many : (pairs parents p q : List ℕ) (n root r x c : ℕ) → bare p q r ≡ put n (bare pairs parents root) x c → nodesOf p ≡ nodesOf pairs
 as-many pairs parents p q n root r x c e = ap (λ (t : Tree). nodesOf (t .pairs)) e ∙ ap (λ (m : ℕ). m / 2) (put-pairs n (bare pairs parents root) x c)
 
 -- ---- two nodes
 
-module _ (pairs parents : List ℕ) (root a b : ℕ) (s : Exchanges pairs parents root a b) where
-  pub exchange-a : Stands pairs parents root a
-  exchange-a = s .stands-a
-
-  pub exchange-b : Stands pairs parents root b
-  exchange-b = s .stands-b
-
-  pub exchange-second : (p q : List ℕ) (y : ℕ) → At pairs parents root b y → length p ≡ length pairs → length q ≡ length parents → Takes p q y a
-  exchange-second p q y e l m = takes pairs parents p q root b y a (s .stands-b) e l m (s .stands-a .node)
-
-pub exchanged : (pairs parents p q : List ℕ) (root r a b x y : ℕ) (u : Tree) → At pairs parents root a x → At pairs parents root b y
-    → bare p q r ≡ put (nodesOf pairs) (bare pairs parents root) x b → u ≡ put (nodesOf p) (bare p q r) y a
+-- x and y are the slots of a and b; p and q are the slices after the first put
+pub exchanged : (pairs parents p q : List ℕ) (root r a b x y : ℕ) (u : Tree) → Exchanges pairs parents root a b
+    → (Stands pairs parents root a → At pairs parents root a x) → (Stands pairs parents root b → At pairs parents root b y)
+    → (Takes pairs parents x b → bare p q r ≡ put (nodesOf pairs) (bare pairs parents root) x b) → length p ≡ length pairs → length q ≡ length parents
+    → (Takes p q y a → u ≡ put (nodesOf p) (bare p q r) y a)
     → u ≡ swap (nodesOf pairs) (bare pairs parents root) a b
 unfolding swap
-exchanged pairs parents p q root r a b x y u ex ey first second =
-    second ∙ rw (as-many pairs parents p q (nodesOf pairs) root r x b first, first, ex, ey)
-
-pub ruleset exchangeLaws = (exchange-a, exchange-b, takes-first)
+exchanged pairs parents p q root r a b x y u s fx fy first l m second =
+    let sa = s .stands-a in
+    let sb = s .stands-b in
+    let ex = fx sa in
+    let ey = fy sb in
+    let one = first (takes pairs parents pairs parents root a x b sa ex refl refl (sb .node)) in
+    let two = second (takes pairs parents p q root b y a sb ey l m (sa .node)) in
+    two ∙ rw (as-many pairs parents p q (nodesOf pairs) root r x b one, one, ex, ey)
 
 -- ---- three nodes
 
-module _ (pairs parents : List ℕ) (root a b c : ℕ) (s : Rotates pairs parents root a b c) where
-  pub rotate-a : Stands pairs parents root a
-  rotate-a = s .stands-a
-
-  pub rotate-b : Stands pairs parents root b
-  rotate-b = s .stands-b
-
-  pub rotate-c : Stands pairs parents root c
-  rotate-c = s .stands-c
-
-  pub rotate-second : (p q : List ℕ) (z : ℕ) → At pairs parents root c z → length p ≡ length pairs → length q ≡ length parents → Takes p q z b
-  rotate-second p q z e l m = takes pairs parents p q root c z b (s .stands-c) e l m (s .stands-b .node)
-
-  pub rotate-third : (p q p′ q′ : List ℕ) (x : ℕ) → At pairs parents root a x
-      → length p ≡ length pairs → length q ≡ length parents → length p′ ≡ length p → length q′ ≡ length q → Takes p′ q′ x c
-  rotate-third p q p′ q′ x e l m l′ m′ = takes pairs parents p′ q′ root a x c (s .stands-a) e (l′ ∙ l) (m′ ∙ m) (s .stands-c .node)
-
-pub rotated : (pairs parents p q p′ q′ : List ℕ) (root r r′ a b c x y z : ℕ) (u : Tree)
-    → At pairs parents root a x → At pairs parents root b y → At pairs parents root c z
-    → bare p q r ≡ put (nodesOf pairs) (bare pairs parents root) y a → bare p′ q′ r′ ≡ put (nodesOf p) (bare p q r) z b
-    → u ≡ put (nodesOf p′) (bare p′ q′ r′) x c
+-- x, y and z are the slots of a, b and c; p and q are the slices after the first put, p′ and q′ after the second
+pub rotated : (pairs parents p q p′ q′ : List ℕ) (root r r′ a b c x y z : ℕ) (u : Tree) → Rotates pairs parents root a b c
+    → (Stands pairs parents root a → At pairs parents root a x) → (Stands pairs parents root b → At pairs parents root b y)
+    → (Stands pairs parents root c → At pairs parents root c z)
+    → (Takes pairs parents y a → bare p q r ≡ put (nodesOf pairs) (bare pairs parents root) y a) → length p ≡ length pairs → length q ≡ length parents
+    → (Takes p q z b → bare p′ q′ r′ ≡ put (nodesOf p) (bare p q r) z b) → length p′ ≡ length p → length q′ ≡ length q
+    → (Takes p′ q′ x c → u ≡ put (nodesOf p′) (bare p′ q′ r′) x c)
     → u ≡ rotate (nodesOf pairs) (bare pairs parents root) a b c
 unfolding rotate
-rotated pairs parents p q p′ q′ root r r′ a b c x y z u ex ey ez first second third =
-    let n : nodesOf p ≡ nodesOf pairs = as-many pairs parents p q (nodesOf pairs) root r y a first in
-    let m : nodesOf p′ ≡ nodesOf p = as-many p q p′ q′ (nodesOf p) r r′ z b second in
-    third ∙ rw (m, second, n, first, ex, ey, ez)
-
-pub ruleset rotateLaws = (rotate-a, rotate-b, rotate-c, takes-first)
+rotated pairs parents p q p′ q′ root r r′ a b c x y z u s fx fy fz first l m second l′ m′ third =
+    let sa = s .stands-a in
+    let sb = s .stands-b in
+    let sc = s .stands-c in
+    let ex = fx sa in
+    let ey = fy sb in
+    let ez = fz sc in
+    let one = first (takes pairs parents pairs parents root b y a sb ey refl refl (sa .node)) in
+    let two = second (takes pairs parents p q root c z b sc ez l m (sb .node)) in
+    let three = third (takes pairs parents p′ q′ root a x c sa ex (l′ ∙ l) (m′ ∙ m) (sc .node)) in
+    let many : nodesOf p ≡ nodesOf pairs = as-many pairs parents p q (nodesOf pairs) root r y a one in
+    let still : nodesOf p′ ≡ nodesOf p = as-many p q p′ q′ (nodesOf p) r r′ z b two in
+    three ∙ rw (still, two, many, one, ex, ey, ez)

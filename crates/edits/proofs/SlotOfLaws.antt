@@ -1,8 +1,7 @@
--- The ways through `slot_of`: the root, a first child and a second child. A node that is not the root has its parent's pair in bounds.
--- Assumes nothing.
+-- The ways through `slot_of`: the root, a first child and a second child, and two that no node which stands somewhere goes. Assumes nothing.
 use mathlib.Core.Path.{_≡_, sym, _∙_}
 use mathlib.Core.List.{List}
-use Prim.Native.Nat.{ℕ, _+_, _<_}
+use Prim.Native.Nat.{ℕ, _+_, _≤_, _<_}
 use native.Mathlib.Numerals.{add-one}
 use native.Mathlib.Omega.{arith}
 use lib.ListN.{length, getD}
@@ -32,14 +31,19 @@ module _ (pairs parents : List ℕ) (root c : ℕ) where
   unfolding parent
   second-at d e = rw add-one (sym (slot-second (nodesOf pairs) (bare pairs parents root) c d e))
 
-  module _ (s : Stands pairs parents root c) (d : c ≡ root → ⊥) where
-    pub pair-inside : getD parents c 0 + getD parents c 0 < length pairs
-    pair-inside = let p : getD parents c 0 < length parents = s .under d in omega arith
+  pub no-pair : Stands pairs parents root c → (c ≡ root → ⊥) → length pairs ≤ getD parents c 0 + getD parents c 0
+      → 0 ≡ slotOf (nodesOf pairs) (bare pairs parents root) c
+  no-pair s d h = let p : getD parents c 0 < length parents = s .under d in absurd (omega arith)
 
-    pub pair-fits : Fits w64 (getD parents c 0 + getD parents c 0)
-    pair-fits = let p : getD parents c 0 < length parents = s .under d in fits-of-lt (omega arith)
+  pub no-node : Stands pairs parents root c → length parents ≤ c → 0 ≡ slotOf (nodesOf pairs) (bare pairs parents root) c
+  no-node s h = absurd (omega arith)
 
-    pub next-fits : Fits w64 (getD parents c 0 + getD parents c 0 + 1)
-    next-fits = let p : getD parents c 0 < length parents = s .under d in fits-of-lt (omega arith)
+-- twice a number of 16 bits, and one more
+module _ (xs : List ℕ) (i : ℕ) (h : (j : ℕ) → Fits w16 (getD xs j 0)) where
+  pub pair-fits : Fits w64 (getD xs i 0 + getD xs i 0)
+  pair-fits = let p : Fits w16 (getD xs i 0) = h i in fits-of-lt (omega arith)
 
-pub ruleset slotOfLaws = (wide, root-at, first-at, second-at, pair-inside, pair-fits, next-fits)
+  pub next-fits : Fits w64 (getD xs i 0 + getD xs i 0 + 1)
+  next-fits = let p : Fits w16 (getD xs i 0) = h i in fits-of-lt (omega arith)
+
+pub ruleset slotOfLaws = (wide, root-at, first-at, second-at, no-pair, no-node, pair-fits, next-fits)

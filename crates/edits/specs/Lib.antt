@@ -1,4 +1,4 @@
--- The edits of a tree, what their code asks for, and their laws.
+-- The edits of a tree, what they need of lent slices, and their laws.
 pub mod Slots
 pub mod Needs
 pub mod SlotLaws

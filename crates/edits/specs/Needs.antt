@@ -1,5 +1,5 @@
--- What the code of the edits asks of the slices that it is lent: enough that no index is out of bounds. NeedsLaws shows that a valid tree
--- and its nodes give all of it. Definitions only. Assumes nothing.
+-- What the slices that are lent to the code of the edits must give for each edit to be the defined one: enough that no index is out of range.
+-- NeedsLaws shows that a valid tree and its nodes give all of it. Definitions only. Assumes nothing.
 use mathlib.Core.Path.{_≡_}
 use mathlib.Core.Logic.{_≢_}
 use mathlib.Core.List.{List}

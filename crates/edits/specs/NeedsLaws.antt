@@ -1,4 +1,4 @@
--- For callers of the edits. In order: a valid tree and its nodes give what each edit asks (`valid-stands` and on); and what a contract says of
+-- For callers of the edits. In order: a valid tree and its nodes give what each edit needs (`valid-stands` and on); and what a contract says of
 -- the slices that it is lent holds of the whole tree (`height-whole` and on). Assumes nothing.
 use mathlib.Core.Path.{_≡_}
 use mathlib.Core.List.{List}
@@ -11,7 +11,7 @@ use Rattle.tree.specs.Valid.{Sized, Valid}
 use Rattle.edits.specs.Slots.{top, slotOf, put, swap, rotate, setHeight, bare}
 use Rattle.edits.specs.Needs.{Stands, Takes, Exchanges, Rotates}
 
--- ---- what the edits ask
+-- ---- what the edits need
 
 module _ {n : ℕ} {t : Tree} (v : Valid n t) where
   -- `slot_of` may be asked of every node

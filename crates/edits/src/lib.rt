@@ -1,48 +1,62 @@
 // Edits of a tree in lent slices, the port of the editing methods of rove's tree.rs. The Rust's `replace_child` and `make_root` are both
 // `put`: a node takes a slot, which is a side of an inner node or the root's register. Slot 2k + s of the pairs is side s of node k, and
 // the slot just past the pairs is the register. A function that may change the root is given it and answers the root afterwards.
-// Each asks of its slices what a valid tree gives (NeedsLaws); none is offered to hosts. Assumes nothing.
+// Each takes any slices and tests every index that it follows; one that is out of range is neither read nor written. What is promised is
+// promised of slices that give what Needs says, as those of a valid tree do (NeedsLaws). None is offered to hosts. Assumes nothing.
 ghost use mathlib.Core.Path.{_≡_};
-ghost use Prim.Native.Nat.{_<_};
-ghost use lib.ListN.{length, set};
+ghost use Prim.Native.Nat.{_%_};
+ghost use lib.ListN.{set};
 ghost use Rattle.tree.specs.Tree.{nodesOf};
 ghost use Rattle.edits.specs.Slots.{slotOf, put, swap, rotate, bare};
 ghost use Rattle.edits.specs.Needs.{Stands, Takes, Exchanges, Rotates};
 
+// A number as it is lent, in 16 bits; a node's number and a slot's half fit.
+fn lent(x: usize) -> u16
+    ensures { λ r. ⌜ r ≡ x % 65536 ⌝ }
+{
+    (x % 65536) as u16
+}
+
 // The slot in which a node stands.
 pub fn slot_of(pairs: &[u16], parents: &[u16], root: usize, node: usize) -> usize
-    requires { ⌜ Stands (now pairs) (now parents) root node ⌝ }
-    ensures { λ r. ⌜ r ≡ slotOf (nodesOf (now (pairs .entry))) (bare (now (pairs .entry)) (now (parents .entry)) root) node ⌝ }
+    ensures { λ r. ⌜ (Stands (now (pairs .entry)) (now (parents .entry)) root node → r ≡ slotOf (nodesOf (now (pairs .entry))) (bare (now (pairs .entry)) (now (parents .entry)) root) node) ⌝ }
 {
     if node == root {
         return pairs.len();
     }
-    let p = parents[node] as usize;
-    let first = p + p;
-    if pairs[first] as usize == node {
-        return first;
+    if node < parents.len() {
+        let p = parents[node] as usize;
+        let first = p + p;
+        if first < pairs.len() {
+            if pairs[first] as usize == node {
+                return first;
+            }
+            return first + 1;
+        }
+        return 0;
     }
-    first + 1
+    0
 }
 
 // The node takes the slot, whatever stood there; the root afterwards.
 pub fn put(pairs: &mut [u16], parents: &mut [u16], root: usize, slot: usize, node: usize) -> usize
-    requires { ⌜ Takes (now pairs) (now parents) slot node ⌝ }
-    ensures { λ r. ⌜ bare (now (pairs .exit)) (now (parents .exit)) r ≡ put (nodesOf (now (pairs .entry))) (bare (now (pairs .entry)) (now (parents .entry)) root) slot node ⌝ }
+    ensures { λ r. ⌜ (Takes (now (pairs .entry)) (now (parents .entry)) slot node → bare (now (pairs .exit)) (now (parents .exit)) r ≡ put (nodesOf (now (pairs .entry))) (bare (now (pairs .entry)) (now (parents .entry)) root) slot node) ⌝ }
 {
-    if slot < pairs.len() {
-        pairs[slot] = node as u16;
-        parents[node] = (slot / 2) as u16;
-        return root;
+    if node < parents.len() {
+        if slot < pairs.len() {
+            pairs[slot] = lent(node);
+            parents[node] = lent(slot / 2);
+            return root;
+        }
+        parents[node] = 65535;
+        return node;
     }
-    parents[node] = 65535;
-    node
+    root
 }
 
 // a and b change places, each onto the other's side; the root afterwards.
 pub fn exchange(pairs: &mut [u16], parents: &mut [u16], root: usize, a: usize, b: usize) -> usize
-    requires { ⌜ Exchanges (now pairs) (now parents) root a b ⌝ }
-    ensures { λ r. ⌜ bare (now (pairs .exit)) (now (parents .exit)) r ≡ swap (nodesOf (now (pairs .entry))) (bare (now (pairs .entry)) (now (parents .entry)) root) a b ⌝ }
+    ensures { λ r. ⌜ (Exchanges (now (pairs .entry)) (now (parents .entry)) root a b → bare (now (pairs .exit)) (now (parents .exit)) r ≡ swap (nodesOf (now (pairs .entry))) (bare (now (pairs .entry)) (now (parents .entry)) root) a b) ⌝ }
 {
     let x = slot_of(pairs, parents, root, a);
     let y = slot_of(pairs, parents, root, b);
@@ -59,8 +73,7 @@ pub fn rotate(
     b: usize,
     c: usize,
 ) -> usize
-    requires { ⌜ Rotates (now pairs) (now parents) root a b c ⌝ }
-    ensures { λ r. ⌜ bare (now (pairs .exit)) (now (parents .exit)) r ≡ rotate (nodesOf (now (pairs .entry))) (bare (now (pairs .entry)) (now (parents .entry)) root) a b c ⌝ }
+    ensures { λ r. ⌜ (Rotates (now (pairs .entry)) (now (parents .entry)) root a b c → bare (now (pairs .exit)) (now (parents .exit)) r ≡ rotate (nodesOf (now (pairs .entry))) (bare (now (pairs .entry)) (now (parents .entry)) root) a b c) ⌝ }
 {
     let x = slot_of(pairs, parents, root, a);
     let y = slot_of(pairs, parents, root, b);
@@ -70,10 +83,11 @@ pub fn rotate(
     put(pairs, parents, second, x, c)
 }
 
-// The node takes the height.
+// The node takes the height; one that has none stays without.
 pub fn set_height(heights: &mut [f64], node: usize, height: f64)
-    requires { ⌜ node < length (now heights) ⌝ }
     ensures { λ _. ⌜ now (heights .exit) ≡ set (now (heights .entry)) node height ⌝ }
 {
-    heights[node] = height;
+    if node < heights.len() {
+        heights[node] = height;
+    }
 }

@@ -87,7 +87,7 @@ module _ (pairs parents : List ℕ) (heights : List Float) (root g : ℕ) (side 
   abbrev t : Tree
   t = treeOf pairs parents heights root
 
-  pub narrow-exchanges : Narrows (nodesOf pairs) (treeOf pairs parents heights root) g → Exchanges pairs parents root c u
+  narrow-exchanges : Narrows (nodesOf pairs) (treeOf pairs parents heights root) g → Exchanges pairs parents root c u
   narrow-exchanges w =
       let v = w .under .valid in
       let i = v .inner g (w .under .node) (w .under .inner) in
@@ -100,14 +100,15 @@ module _ (pairs parents : List ℕ) (heights : List Float) (root g : ℕ) (side 
   whole p q r e = swap-whole (nodesOf pairs) t c u e ∙ rw (ec ∙ side-kin t g side, eu ∙ uncle-kin t g)
 
   pub narrow-moved : (x : ℕ) → x ≡ grands (nodesOf pairs) (pairsIn pairs) (nodesOf pairs)
-      → (p q : List ℕ) (r : ℕ) → bare p q r ≡ swap (nodesOf pairs) (bare pairs parents root) c u
+      → Narrows (nodesOf pairs) (treeOf pairs parents heights root) g
+      → (p q : List ℕ) (r : ℕ) → (Exchanges pairs parents root c u → bare p q r ≡ swap (nodesOf pairs) (bare pairs parents root) c u)
       → (y : ℕ) → y ≡ grands (nodesOf pairs) (pairsIn p) (nodesOf pairs) → (s : Supply)
       → after (record { turned = Turns.Moved r (Counts x y); supply = s }) p q heights ≡ narrowTurn (nodesOf pairs) (treeOf pairs parents heights root) g side s
   unfolding narrowTurn turnOf narrowRatio
-  narrow-moved x ex p q r e y ey s =
-      rw (← whole p q r e, ex, ey, grands-pairs (nodesOf pairs) t (nodesOf pairs), grands-pairs (nodesOf pairs) (treeOf p q heights r) (nodesOf pairs))
+  narrow-moved x ex w p q r f y ey s =
+      rw (← whole p q r (f (narrow-exchanges w)), ex, ey, grands-pairs (nodesOf pairs) t (nodesOf pairs), grands-pairs (nodesOf pairs) (treeOf p q heights r) (nodesOf pairs))
 
-pub ruleset narrowLaws = (narrow-exchanges, narrow-moved)
+pub ruleset narrowLaws = (narrow-moved)
 
 -- ---- what the turn leaves, and what it leaves from the supply u on, g being drawn
 
@@ -129,7 +130,7 @@ module _ (pairs parents : List ℕ) (heights : List Float) (root g : ℕ) (b : B
   under-declined y s u = rw (declines, y)
 
   module _ (y : b ≡ false) where
-    pub under-narrows : AtInner (nodesOf pairs) (treeOf pairs parents heights root) g → Narrows (nodesOf pairs) (treeOf pairs parents heights root) g
+    under-narrows : AtInner (nodesOf pairs) (treeOf pairs parents heights root) g → Narrows (nodesOf pairs) (treeOf pairs parents heights root) g
     under-narrows w = record { under = w; parent = taller-inner (nodesOf pairs) (treeOf pairs parents heights root) g (declines ∙ y) }
 
     module _ (s u : Supply) (c : DrawnSide) (ec : c ≡ drawnSide u (run coin u)) where
@@ -137,12 +138,13 @@ module _ (pairs parents : List ℕ) (heights : List Float) (root g : ℕ) (b : B
       unfolding narrowUnder turnOf
       under-spent d = rw (declines, y, bind-spent coin _ u (side-spent u c _ ec d))
 
-      pub under-moved : c .ok ≡ true → (r : Turn) (p q : List ℕ) → after r p q heights ≡ narrowTurn (nodesOf pairs) (treeOf pairs parents heights root) g (c .value) (c .supply)
+      pub under-moved : c .ok ≡ true → AtInner (nodesOf pairs) (treeOf pairs parents heights root) g → (r : Turn) (p q : List ℕ)
+          → (Narrows (nodesOf pairs) (treeOf pairs parents heights root) g → after r p q heights ≡ narrowTurn (nodesOf pairs) (treeOf pairs parents heights root) g (c .value) (c .supply))
           → after r p q heights ≡ under pairs parents heights root g s u
       unfolding narrowUnder narrowTurn turnOf run
-      under-moved d r p q e = rw (declines, y, bind-got coin _ u (c .value) (c .supply) (side-got u c _ ec d)) e
+      under-moved d w r p q f = rw (declines, y, bind-got coin _ u (c .value) (c .supply) (side-got u c _ ec d)) (f (under-narrows w))
 
-pub ruleset underLaws = (under-declined, under-narrows, under-spent, under-moved)
+pub ruleset underLaws = (under-declined, under-spent, under-moved)
 
 -- ---- the turn
 
@@ -170,14 +172,16 @@ module _ (pairs parents : List ℕ) (heights : List Float) (root : ℕ) (s : Sup
       drawn : pick (grandparent n given) s ≡ got (a .value) (a .supply)
       drawn = rw (← same) (number-got s a _ ea h)
 
-      pub turn-under : Valid (nodesOf pairs) (treeOf pairs parents heights root) → AtInner (nodesOf pairs) (treeOf pairs parents heights root) (a .value)
+      turn-under : Valid (nodesOf pairs) (treeOf pairs parents heights root) → AtInner (nodesOf pairs) (treeOf pairs parents heights root) (a .value)
       unfolding grandparent
       turn-under v =
           let g = until-yields (Internal n) (grand n given) (internal n) (internal-yields n (v .sized .odd)) s (a .value) (a .supply) drawn .1 in
           record { valid = v; node = g .node; inner = g .inner }
 
-      pub turn-done : (x : After) → x ≡ under pairs parents heights root (a .value) s (a .supply) → x ≡ ends pairs parents heights root s
+      pub turn-done : Valid (nodesOf pairs) (treeOf pairs parents heights root) → (x : After)
+          → (AtInner (nodesOf pairs) (treeOf pairs parents heights root) (a .value) → x ≡ under pairs parents heights root (a .value) s (a .supply))
+          → x ≡ ends pairs parents heights root s
       unfolding narrowExchange grandparent narrowUnder
-      turn-done x e = rw (← eo, m, draw-got (grandparent n given) _ s (a .value) (a .supply) drawn) e
+      turn-done v x f = rw (← eo, m, draw-got (grandparent n given) _ s (a .value) (a .supply) drawn) (f (turn-under v))
 
-pub ruleset narrowTurnLaws = (turn-one, turn-spent, turn-under, turn-done)
+pub ruleset narrowTurnLaws = (turn-one, turn-spent, turn-done)

@@ -79,6 +79,17 @@ module _ (ps : List ℕ) (hs : List Float) (i j p q : ℕ) (ep : p ≡ getD ps i
 
 pub ruleset wideDeclinesLaws = (declines-siblings, declines-i, declines-j, declines-low, declines-last)
 
+-- ---- what was drawn are nodes
+
+module _ (n root : ℕ) (s : Supply) (a : DrawnNumber) where
+  first-node : a ≡ drawnNumber s (pick (nonRoot n root) s) → a .ok ≡ true → a .value < n
+  first-node e h = non-root-yields n root s (a .value) (a .supply) (number-got s a _ e h) .node
+
+  second-node : (i : ℕ) → a ≡ drawnNumber s (pick (apart n root i) s) → a .ok ≡ true → a .value < n
+  unfolding apart
+  second-node i e h =
+      until-yields (NonRoot n root) (λ j. not (eqb j i)) (nonRoot n root) (non-root-yields n root) s (a .value) (a .supply) (number-got s a _ e h) .1 .node
+
 -- ---- the turn
 
 abbrev wide : List ℕ → List ℕ → List Float → ℕ → Supply → After
@@ -113,24 +124,13 @@ module _ (pairs parents : List ℕ) (heights : List Float) (root : ℕ) (s : Sup
         unfolding turnOf
         wide-declined y = rw (ends, ← dates, ← ed, y)
 
-        pub wide-moved : d ≡ false → (p q : List ℕ) (r : ℕ) → bare p q r ≡ swap (nodesOf pairs) (bare pairs parents root) (a .value) (b .value)
+        pub wide-moved : d ≡ false → Valid (nodesOf pairs) (treeOf pairs parents heights root) → (p q : List ℕ) (r : ℕ)
+            → (Exchanges pairs parents root (a .value) (b .value) → bare p q r ≡ swap (nodesOf pairs) (bare pairs parents root) (a .value) (b .value))
             → after (record { turned = Turns.Moved r Even; supply = b .supply }) p q heights ≡ wide pairs parents heights root s
         unfolding turnOf
-        wide-moved y p q r e = rw (ends, ← dates, ← ed, y, ← swap-whole (nodesOf pairs) t (a .value) (b .value) e)
+        wide-moved y v p q r f =
+            let i = first-node (nodesOf pairs) root s a ea h in
+            let j = second-node (nodesOf pairs) root (a .supply) b (a .value) eb k in
+            rw (ends, ← dates, ← ed, y, ← swap-whole (nodesOf pairs) t (a .value) (b .value) (f (valid-exchanges v (a .value) (b .value) i j)))
 
--- ---- what was drawn are nodes
-
-module _ (n root : ℕ) (s : Supply) (a : DrawnNumber) where
-  pub first-node : a ≡ drawnNumber s (pick (nonRoot n root) s) → a .ok ≡ true → a .value < n
-  first-node e h = non-root-yields n root s (a .value) (a .supply) (number-got s a _ e h) .node
-
-  pub second-node : (i : ℕ) → a ≡ drawnNumber s (pick (apart n root i) s) → a .ok ≡ true → a .value < n
-  unfolding apart
-  second-node i e h =
-      until-yields (NonRoot n root) (λ j. not (eqb j i)) (nonRoot n root) (non-root-yields n root) s (a .value) (a .supply) (number-got s a _ e h) .1 .node
-
-pub wide-exchanges : (pairs parents : List ℕ) (heights : List Float) (root i j : ℕ) → Valid (nodesOf pairs) (treeOf pairs parents heights root)
-    → i < nodesOf pairs → j < nodesOf pairs → Exchanges pairs parents root i j
-wide-exchanges pairs parents heights root i j v = valid-exchanges v i j
-
-pub ruleset wideLaws = (wide-spent, wide-spent-later, wide-declined, wide-moved, first-node, second-node, wide-exchanges)
+pub ruleset wideLaws = (wide-spent, wide-spent-later, wide-declined, wide-moved)

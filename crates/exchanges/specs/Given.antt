@@ -1,4 +1,4 @@
--- What the code of the exchanges reads of a tree, what a turn of NarrowExchange leaves, and what the code asks. Definitions only. Assumes nothing.
+-- What the code of the exchanges reads of a tree, what a turn of NarrowExchange leaves, and of which trees. Definitions only. Assumes nothing.
 use mathlib.Core.Bool.{Bool}
 use mathlib.Core.List.{List, []}
 use Prim.Native.Nat.{ℕ, _+_, _<_}
@@ -34,7 +34,7 @@ uncleIn pairs hs g = uncle (kinIn pairs hs) g
 unfoldable pub narrowTurn : ℕ → Tree → ℕ → Bool → Supply → After
 narrowTurn n t g side s = turnOf t s (got (makes (moved (narrowed n t g side) (narrowRatio n t g side))) s)
 
--- ---- what is asked
+-- ---- what NarrowExchange has drawn
 
 -- g is an internal node of a valid tree
 pub record AtInner (n : ℕ) (t : Tree) (g : ℕ) : Type 0 where

@@ -1,8 +1,10 @@
 // WideExchange and NarrowExchange: two nodes of a lent tree change places, the port of the functions of the same names of rove's moves.rs. Each has
-// an entry, which checks all that it is given, and a turn for a tree that has been checked. Assumes nothing.
+// the call of its name, which refuses what is not in order, and an unvalidated one, which leaves the tree unchecked; both take whatever is lent.
+// Assumes nothing.
 ghost use mathlib.Core.Path.{_≡_};
 ghost use Rattle.random.specs.Draw.{pick, run, drawnNumber};
 ghost use Rattle.tree.specs.Tree.{nodesOf};
+ghost use Rattle.tree.specs.New.{Accepted};
 ghost use Rattle.tree.specs.Valid.{Valid};
 ghost use Rattle.tree.specs.Given.{treeOf, datesIn, kinIn};
 ghost use Rattle.rules.specs.Rules.{grand, grands, narrowDeclines, wideDeclines};
@@ -78,8 +80,7 @@ fn wide_exchange_turn(
     root: usize,
     s: Supply,
 ) -> Turn
-    requires { ⌜ Valid (nodesOf (now pairs)) (treeOf (now pairs) (now parents) (now heights) root) ⌝ }
-    ensures { λ r. ⌜ after r (now (pairs .exit)) (now (parents .exit)) (now (heights .entry)) ≡ turnOf (treeOf (now (pairs .entry)) (now (parents .entry)) (now (heights .entry)) root) s (run (Programs.wideExchange (treeOf (now (pairs .entry)) (now (parents .entry)) (now (heights .entry)) root)) s) ⌝ }
+    ensures { λ r. ⌜ (Valid (nodesOf (now (pairs .entry))) (treeOf (now (pairs .entry)) (now (parents .entry)) (now (heights .entry)) root) → after r (now (pairs .exit)) (now (parents .exit)) (now (heights .entry)) ≡ turnOf (treeOf (now (pairs .entry)) (now (parents .entry)) (now (heights .entry)) root) s (run (Programs.wideExchange (treeOf (now (pairs .entry)) (now (parents .entry)) (now (heights .entry)) root)) s)) ⌝ }
 {
     let n = pairs.len() / 2;
     let i = calls::non_root(s, n, root);
@@ -111,8 +112,8 @@ fn wide_exchange_turn(
     }
 }
 
-// WideExchange, of a tree that may be any lent slices.
-pub fn wide_exchange(
+// WideExchange, by at most `allowance` draws, the tree being left unvalidated.
+pub fn wide_exchange_unvalidated(
     pairs: &mut [u16],
     parents: &mut [u16],
     heights: &[f64],
@@ -120,9 +121,9 @@ pub fn wide_exchange(
     random: Random,
     allowance: u32,
 ) -> Answered
-    ensures { λ r. ⌜ called (r .answer) (r .random) (now (pairs .exit)) (now (parents .exit)) (now (heights .entry)) ≡ moveCall wideExchange (treeOf (now (pairs .entry)) (now (parents .entry)) (now (heights .entry)) root) random allowance ⌝ }
+    ensures { λ r. ⌜ (Accepted (treeOf (now (pairs .entry)) (now (parents .entry)) (now (heights .entry)) root) → called (r .answer) (r .random) (now (pairs .exit)) (now (parents .exit)) (now (heights .entry)) ≡ moveCall wideExchange (treeOf (now (pairs .entry)) (now (parents .entry)) (now (heights .entry)) root) random allowance) ⌝ }
 {
-    match calls::check(pairs, parents, heights, root, true, allowance) {
+    match calls::check_limits(true, allowance) {
         Verdict::Refused(why) => {
             return calls::refuse(why, random);
         }
@@ -133,6 +134,27 @@ pub fn wide_exchange(
             };
             let turn = wide_exchange_turn(pairs, parents, heights, root, s);
             return calls::answer(turn, random, allowance);
+        }
+    }
+}
+
+// WideExchange, by at most `allowance` draws.
+pub fn wide_exchange(
+    pairs: &mut [u16],
+    parents: &mut [u16],
+    heights: &[f64],
+    root: usize,
+    random: Random,
+    allowance: u32,
+) -> Answered
+    ensures { λ r. ⌜ called (r .answer) (r .random) (now (pairs .exit)) (now (parents .exit)) (now (heights .entry)) ≡ moveCall wideExchange (treeOf (now (pairs .entry)) (now (parents .entry)) (now (heights .entry)) root) random allowance ⌝ }
+{
+    match quick::validate(pairs, parents, heights, root) {
+        Verdict::Refused(why) => {
+            return calls::refuse(why, random);
+        }
+        Verdict::Fine => {
+            return wide_exchange_unvalidated(pairs, parents, heights, root, random, allowance);
         }
     }
 }
@@ -253,8 +275,7 @@ fn narrow(
     coin: bool,
     s: Supply,
 ) -> Turn
-    requires { ⌜ Narrows (nodesOf (now pairs)) (treeOf (now pairs) (now parents) (now heights) root) g ⌝ }
-    ensures { λ r. ⌜ after r (now (pairs .exit)) (now (parents .exit)) (now (heights .entry)) ≡ narrowTurn (nodesOf (now (pairs .entry))) (treeOf (now (pairs .entry)) (now (parents .entry)) (now (heights .entry)) root) g coin s ⌝ }
+    ensures { λ r. ⌜ (Narrows (nodesOf (now (pairs .entry))) (treeOf (now (pairs .entry)) (now (parents .entry)) (now (heights .entry)) root) g → after r (now (pairs .exit)) (now (parents .exit)) (now (heights .entry)) ≡ narrowTurn (nodesOf (now (pairs .entry))) (treeOf (now (pairs .entry)) (now (parents .entry)) (now (heights .entry)) root) g coin s) ⌝ }
 {
     let n = pairs.len() / 2;
     let before = grands(pairs, n);
@@ -278,8 +299,7 @@ fn narrow_under(
     drawn: Supply,
     s: Supply,
 ) -> Turn
-    requires { ⌜ AtInner (nodesOf (now pairs)) (treeOf (now pairs) (now parents) (now heights) root) g ⌝ }
-    ensures { λ r. ⌜ after r (now (pairs .exit)) (now (parents .exit)) (now (heights .entry)) ≡ turnOf (treeOf (now (pairs .entry)) (now (parents .entry)) (now (heights .entry)) root) s (run (narrowUnder (nodesOf (now (pairs .entry))) (treeOf (now (pairs .entry)) (now (parents .entry)) (now (heights .entry)) root) g) drawn) ⌝ }
+    ensures { λ r. ⌜ (AtInner (nodesOf (now (pairs .entry))) (treeOf (now (pairs .entry)) (now (parents .entry)) (now (heights .entry)) root) g → after r (now (pairs .exit)) (now (parents .exit)) (now (heights .entry)) ≡ turnOf (treeOf (now (pairs .entry)) (now (parents .entry)) (now (heights .entry)) root) s (run (narrowUnder (nodesOf (now (pairs .entry))) (treeOf (now (pairs .entry)) (now (parents .entry)) (now (heights .entry)) root) g) drawn)) ⌝ }
 {
     let n = pairs.len() / 2;
     if narrow_declines(pairs, heights, n, g) {
@@ -307,8 +327,7 @@ fn narrow_exchange_turn(
     root: usize,
     s: Supply,
 ) -> Turn
-    requires { ⌜ Valid (nodesOf (now pairs)) (treeOf (now pairs) (now parents) (now heights) root) ⌝ }
-    ensures { λ r. ⌜ after r (now (pairs .exit)) (now (parents .exit)) (now (heights .entry)) ≡ turnOf (treeOf (now (pairs .entry)) (now (parents .entry)) (now (heights .entry)) root) s (run (Programs.narrowExchange (treeOf (now (pairs .entry)) (now (parents .entry)) (now (heights .entry)) root)) s) ⌝ }
+    ensures { λ r. ⌜ (Valid (nodesOf (now (pairs .entry))) (treeOf (now (pairs .entry)) (now (parents .entry)) (now (heights .entry)) root) → after r (now (pairs .exit)) (now (parents .exit)) (now (heights .entry)) ≡ turnOf (treeOf (now (pairs .entry)) (now (parents .entry)) (now (heights .entry)) root) s (run (Programs.narrowExchange (treeOf (now (pairs .entry)) (now (parents .entry)) (now (heights .entry)) root)) s)) ⌝ }
 {
     let n = pairs.len() / 2;
     if calls::is_one_internal(n) {
@@ -328,8 +347,8 @@ fn narrow_exchange_turn(
     }
 }
 
-// NarrowExchange, of a tree that may be any lent slices.
-pub fn narrow_exchange(
+// NarrowExchange, by at most `allowance` draws, the tree being left unvalidated.
+pub fn narrow_exchange_unvalidated(
     pairs: &mut [u16],
     parents: &mut [u16],
     heights: &[f64],
@@ -337,9 +356,9 @@ pub fn narrow_exchange(
     random: Random,
     allowance: u32,
 ) -> Answered
-    ensures { λ r. ⌜ called (r .answer) (r .random) (now (pairs .exit)) (now (parents .exit)) (now (heights .entry)) ≡ moveCall narrowExchange (treeOf (now (pairs .entry)) (now (parents .entry)) (now (heights .entry)) root) random allowance ⌝ }
+    ensures { λ r. ⌜ (Accepted (treeOf (now (pairs .entry)) (now (parents .entry)) (now (heights .entry)) root) → called (r .answer) (r .random) (now (pairs .exit)) (now (parents .exit)) (now (heights .entry)) ≡ moveCall narrowExchange (treeOf (now (pairs .entry)) (now (parents .entry)) (now (heights .entry)) root) random allowance) ⌝ }
 {
-    match calls::check(pairs, parents, heights, root, true, allowance) {
+    match calls::check_limits(true, allowance) {
         Verdict::Refused(why) => {
             return calls::refuse(why, random);
         }
@@ -350,6 +369,27 @@ pub fn narrow_exchange(
             };
             let turn = narrow_exchange_turn(pairs, parents, heights, root, s);
             return calls::answer(turn, random, allowance);
+        }
+    }
+}
+
+// NarrowExchange, by at most `allowance` draws.
+pub fn narrow_exchange(
+    pairs: &mut [u16],
+    parents: &mut [u16],
+    heights: &[f64],
+    root: usize,
+    random: Random,
+    allowance: u32,
+) -> Answered
+    ensures { λ r. ⌜ called (r .answer) (r .random) (now (pairs .exit)) (now (parents .exit)) (now (heights .entry)) ≡ moveCall narrowExchange (treeOf (now (pairs .entry)) (now (parents .entry)) (now (heights .entry)) root) random allowance ⌝ }
+{
+    match quick::validate(pairs, parents, heights, root) {
+        Verdict::Refused(why) => {
+            return calls::refuse(why, random);
+        }
+        Verdict::Fine => {
+            return narrow_exchange_unvalidated(pairs, parents, heights, root, random, allowance);
         }
     }
 }

@@ -2,14 +2,14 @@
 use mathlib.Core.Path.{_≡_, ap, _∙_}
 use mathlib.Core.List.{List}
 use Prim.Native.Nat.{ℕ, _<_}
-use lib.ListN.{length, getD, set}
+use lib.ListN.{getD, set}
 use lib.Ieee.{Float}
 use Rattle.tree.specs.Tree.{Tree, nodesOf, otherIn, parent, sibling}
 use Rattle.tree.specs.Given.{treeOf}
 use Rattle.accepted.specs.WayLaws.{valid-linked}
 use Rattle.edits.specs.Slots.{rotate, bare}
 use Rattle.edits.specs.Needs.{Rotates}
-use Rattle.edits.specs.NeedsLaws.{valid-rotates, valid-height, height-whole, rotate-whole}
+use Rattle.edits.specs.NeedsLaws.{valid-rotates, height-whole, rotate-whole}
 use Rattle.rules.specs.Rules.{regraft}
 use Rattle.reversal.specs.FamilyLaws.{sibling-is}
 use Rattle.grafts.specs.Given.{Regrafts}
@@ -34,16 +34,12 @@ module _ (pairs parents : List ℕ) (heights : List Float) (root i j : ℕ) (g :
   parent-node : p < n
   parent-node = rw parent-is (g .valid .below i (g .node) (g .under) .parent-node)
 
-  pub regraft-rotates : Rotates pairs parents root b p j
-  regraft-rotates = valid-rotates (g .valid) b p j (rw sibling-read (sibling-is (valid-linked (g .valid)) i (g .node) (g .under) .node)) parent-node (g .to)
+  rotates : Rotates pairs parents root b p j
+  rotates = valid-rotates (g .valid) b p j (rw sibling-read (sibling-is (valid-linked (g .valid)) i (g .node) (g .under) .node)) parent-node (g .to)
 
-  pub regraft-height : p < length heights
-  regraft-height = valid-height (g .valid) p parent-node
-
-  pub regraft-is : (x : Float) (ps qs : List ℕ) (r : ℕ) → bare ps qs r ≡ rotate n (bare pairs parents root) b p j → (hs : List Float) → hs ≡ set heights p x
-      → treeOf ps qs hs r ≡ regraft n t i j x
+  -- ps, qs and r are what the rotation left, and hs what the height did
+  pub regrafted : (x : Float) (ps qs : List ℕ) (r : ℕ) → (Rotates pairs parents root b p j → bare ps qs r ≡ rotate n (bare pairs parents root) b p j)
+      → (hs : List Float) → hs ≡ set heights p x → treeOf ps qs hs r ≡ regraft n t i j x
   unfolding regraft
-  regraft-is x ps qs r e hs f =
-      rw (← parent-is, ← sibling-read, ← rotate-whole n t b p j e) (height-whole (treeOf ps qs heights r) p x f)
-
-pub ruleset regraftLaws = (regraft-rotates, regraft-height, regraft-is)
+  regrafted x ps qs r e hs f =
+      rw (← parent-is, ← sibling-read, ← rotate-whole n t b p j (e rotates)) (height-whole (treeOf ps qs heights r) p x f)

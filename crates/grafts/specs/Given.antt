@@ -1,4 +1,4 @@
--- What a regraft asks of the slices that it is lent. Definitions only. Assumes nothing.
+-- What the slices that are lent to a regraft must give for it to be the defined one. Definitions only. Assumes nothing.
 use mathlib.Core.Logic.{_≢_}
 use mathlib.Core.List.{List}
 use Prim.Native.Nat.{ℕ, _<_}

@@ -1,2 +1,2 @@
--- What the code asks of the tree that it is lent.
+-- What the code needs of the tree that it is lent.
 pub mod Given

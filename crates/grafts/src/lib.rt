@@ -1,5 +1,5 @@
-// A node's parent goes onto another branch: what SubtreeSlide and WilsonBalding of rove's mcmc/moves.rs write. It asks of its slices what a valid
-// tree gives, and is not offered to hosts. Assumes nothing.
+// A node's parent goes onto another branch: what SubtreeSlide and WilsonBalding of rove's mcmc/moves.rs write. It takes any slices; what is
+// promised is promised of a valid tree and its nodes. It is not offered to hosts. Assumes nothing.
 ghost use mathlib.Core.Path.{_≡_};
 ghost use Rattle.tree.specs.Tree.{nodesOf};
 ghost use Rattle.tree.specs.Given.{treeOf};
@@ -16,8 +16,7 @@ pub fn regraft(
     to: usize,
     x: f64,
 ) -> usize
-    requires { ⌜ Regrafts (now pairs) (now parents) (now heights) root node to ⌝ }
-    ensures { λ r. ⌜ treeOf (now (pairs .exit)) (now (parents .exit)) (now (heights .exit)) r ≡ regraft (nodesOf (now (pairs .entry))) (treeOf (now (pairs .entry)) (now (parents .entry)) (now (heights .entry)) root) node to x ⌝ }
+    ensures { λ r. ⌜ (Regrafts (now (pairs .entry)) (now (parents .entry)) (now (heights .entry)) root node to → treeOf (now (pairs .exit)) (now (parents .exit)) (now (heights .exit)) r ≡ regraft (nodesOf (now (pairs .entry))) (treeOf (now (pairs .entry)) (now (parents .entry)) (now (heights .entry)) root) node to x) ⌝ }
 {
     let p = reads::parent(parents, node);
     let sibling = reads::other(pairs, p, node);

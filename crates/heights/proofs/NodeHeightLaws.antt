@@ -5,7 +5,7 @@ use mathlib.Core.Bool.{Bool, true, false, not}
 use mathlib.Core.List.{List}
 use Prim.Native.Nat.{ℕ, _<_}
 use lib.Dec.{eqb}
-use lib.ListN.{length, getD, set}
+use lib.ListN.{getD, set}
 use lib.Ieee.{Float, nan}
 use borrow.Author.Tests.{eq-eqb, ne-eqb}
 use Rattle.answer.specs.declared.Ratio.the-variants.{Even}
@@ -13,14 +13,12 @@ use Rattle.random.specs.declared.Supply.{Supply}
 use Rattle.random.specs.declared.DrawnNumber.{DrawnNumber}
 use Rattle.random.specs.declared.DrawnReal.{DrawnReal}
 use Rattle.random.specs.Draw.{uniform, pick, run, drawnNumber, drawnReal}
-use Rattle.random.specs.DrawLaws.{draw-got, draw-spent, until-yields}
+use Rattle.random.specs.DrawLaws.{draw-got, draw-spent}
 use Rattle.random.specs.SupplyLaws.{number-got, number-spent}
 use Rattle.real.specs.Real.{maxOf}
 use Rattle.tree.specs.Tree.{Tree, nodesOf, firstIn, secondIn, parent, height}
-use Rattle.tree.specs.Valid.{Valid}
 use Rattle.tree.specs.Given.{treeOf, kinIn}
 use Rattle.edits.specs.Slots.{setHeight}
-use Rattle.edits.specs.NeedsLaws.{valid-height}
 use Rattle.rules.specs.Rules as Rules
 use Rattle.rules.specs.Rules.{oneInternal, floor}
 use Rattle.calls.specs.declared.Turned.the-variants as Turns
@@ -31,7 +29,6 @@ use Rattle.calls.specs.Draws.{internal}
 use Rattle.moves.specs.Programs.{nodeHeight, nonRootInternal, placing}
 use Rattle.calls.specs.Given.{After, afterOn, turnOf, heightOf}
 use Rattle.calls.specs.RedrawLaws.{redraw-fewer, redraw-spent, redraw-taken, redraw-passed}
-use Rattle.calls.specs.YieldLaws.{Internal, internal-yields}
 use Rattle.calls.specs.HeightLaws.{height-spent, height-inside, height-outside}
 
 -- ---- an internal node other than the root
@@ -115,12 +112,6 @@ module _ (pairs parents : List ℕ) (heights : List Float) (root : ℕ) (s : Sup
 
   -- d is the node that was drawn
   module _ (d : DrawnNumber) (e : d ≡ drawnNumber s (pick (nonRootInternal n root) s)) where
-    pub turn-node : d .ok ≡ true → Valid n t → d .value < length heights
-    unfolding nonRootInternal
-    turn-node f v =
-        let p = until-yields (Internal n) (λ k. not (eqb k root)) (internal n) (internal-yields n (v .sized .odd)) s (d .value) (d .supply) (number-got s d _ e f) in
-        valid-height v (d .value) (p .1 .node)
-
     module _ (o : Bool) (eo : o ≡ oneInternal n) (h : o ≡ false) where
       pub turn-spent : d .ok ≡ false → afterOn Turns.Spent s t ≡ turnOf t s (run (nodeHeight t) s)
       unfolding nodeHeight turnOf nonRootInternal
@@ -130,4 +121,4 @@ module _ (pairs parents : List ℕ) (heights : List Float) (root : ℕ) (s : Sup
       unfolding nodeHeight nonRootInternal placing
       turn-placed f a q = rw (q, ← eo, h, draw-got _ _ s (d .value) (d .supply) (number-got s d _ e f))
 
-pub ruleset nodeHeightLaws = (turn-alone, turn-node, turn-spent, turn-placed)
+pub ruleset nodeHeightLaws = (turn-alone, turn-spent, turn-placed)

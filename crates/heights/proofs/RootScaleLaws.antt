@@ -1,9 +1,9 @@
--- The ways through the check of a scale (`tunedLaws`) and through RootScale's turn (`rootScaleLaws`). Assumes nothing.
+-- The ways through RootScale's turn. Assumes nothing.
 use mathlib.Core.Path.{_≡_}
 use mathlib.Core.Bool.{Bool, true, false}
 use mathlib.Core.List.{List}
-use Prim.Native.Nat.{ℕ, _<_}
-use lib.ListN.{length, getD, set}
+use Prim.Native.Nat.{ℕ}
+use lib.ListN.{getD, set}
 use lib.IntN.{negsuc}
 use lib.Ieee.{Float, nan, binary64, mul, lt}
 use lib.Ieee.Scale.{finite}
@@ -12,36 +12,19 @@ use Rattle.random.specs.declared.Supply.{Supply}
 use Rattle.random.specs.declared.DrawnReal.{DrawnReal}
 use Rattle.random.specs.Draw.{uniform, run, drawnReal}
 use Rattle.random.specs.DrawLaws.{bind-got, bind-spent}
-use Rattle.tree.specs.declared.Verdict.{Verdict}
-use Rattle.tree.specs.Tree.{Tree, nodesOf, height}
-use Rattle.tree.specs.Valid.{Valid}
+use Rattle.tree.specs.Tree.{Tree, height}
 use Rattle.tree.specs.Given.{treeOf, kinIn}
 use Rattle.edits.specs.Slots.{setHeight}
-use Rattle.edits.specs.NeedsLaws.{valid-height}
 use Rattle.rules.specs.Rules.{floor, rootScaleDeclines}
 use Rattle.calls.specs.declared.Turned.the-variants as Turns
-use Rattle.calls.specs.Call.{checked}
-use Rattle.calls.specs.Draws.{scaler, tuned}
+use Rattle.calls.specs.Draws.{scaler}
 use Rattle.moves.specs.Programs.{rootScale}
 use Rattle.calls.specs.Given.{afterOn, turnOf}
 use Rattle.random.specs.SupplyLaws.{real-got, real-spent}
 
--- ---- the check
-
-pub tuned-checked : (tuning : Float) (t : Tree) (allowance : ℕ) (b : Bool) → b ≡ tuned tuning → (v : Verdict) → v ≡ checked b t allowance
-    → v ≡ checked (tuned tuning) t allowance
-tuned-checked tuning t allowance b e v h = rw (← e) h
-
-pub ruleset tunedLaws = (tuned-checked)
-
--- ---- the turn
-
 module _ (pairs parents : List ℕ) (heights : List Float) (root : ℕ) where
   abbrev t : Tree
   t = treeOf pairs parents heights root
-
-  pub root-inside : Valid (nodesOf pairs) (treeOf pairs parents heights root) → root < length heights
-  root-inside v = valid-height v root (v .root-node)
 
   -- u is the uniform
   module _ (tuning : Float) (s : Supply) (u : DrawnReal) (e : u ≡ drawnReal s (run uniform s)) where
@@ -66,4 +49,4 @@ module _ (pairs parents : List ℕ) (heights : List Float) (root : ℕ) where
         unfolding rootScale turnOf run height rootScaleDeclines setHeight
         root-moved d hs w = rw (bind-got uniform _ s (u .value) (u .supply) (real-got s u (run uniform s) e g), ← ef, ← eh, ← eb, k, ← el, d, w)
 
-pub ruleset rootScaleLaws = (root-inside, root-spent, root-not-finite, root-declined, root-moved)
+pub ruleset rootScaleLaws = (root-spent, root-not-finite, root-declined, root-moved)

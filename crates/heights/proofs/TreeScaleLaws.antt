@@ -149,7 +149,11 @@ module _ (n : ℕ) (h : n ≤ 4095) where
   pub ratio-is : (f : Float) → Power f (toZ w32 (ofZ w32 (toZ w32 (internals n) -ℤ pos 2))) ≡ treeScaleRatio n f
   ratio-is f = rw read (ap (Power f) (toZ-ofZ (less-two (internals n) (omega arith))))
 
-pub ruleset ratioLaws = (ratio-fits, ratio-is)
+-- there is no such tree
+pub ratio-none : (n : ℕ) (f : Float) (r : Ratio) → 4095 < n → n ≤ 4095 → r ≡ treeScaleRatio n f
+ratio-none n f r k h = absurd (omega arith)
+
+pub ruleset ratioLaws = (ratio-fits, ratio-is, ratio-none)
 
 -- ---- the turn
 
@@ -190,10 +194,10 @@ module _ (pairs parents : List ℕ) (heights : List Float) (root : ℕ) (tuning 
         go true x z = rw z
         go false x z = refl
 
-    pub tree-moved : b ≡ true → (z : Ratio) → z ≡ treeScaleRatio n f → (hs : List Float) → hs ≡ scaledTo (length heights) (heightsOf heights) f (length heights) .heights
+    pub tree-moved : b ≡ true → (z : Ratio) → (nodesOf pairs ≤ 4095 → z ≡ treeScaleRatio n f) → (hs : List Float) → hs ≡ scaledTo (length heights) (heightsOf heights) f (length heights) .heights
         → afterOn (Turns.Moved root z) (u .supply) (treeOf pairs parents hs root) ≡ turnOf t s (run (treeScale tuning t) s)
     unfolding turnOf
-    tree-moved y z ez hs w = rw (ran, all-finite y, le-ltb n n (omega arith), scaled-whole n t f n, ez, w, long)
+    tree-moved y z ez hs w = rw (ran, all-finite y, le-ltb n n (omega arith), scaled-whole n t f n, ez (v .sized .few), w, long)
 
     pub tree-not-finite : b ≡ false → (j : ℕ) → j ≡ least (overflows (length heights) (heightsOf heights) f) (length heights)
         → afterOn (Turns.NotFinite j) (u .supply) t ≡ turnOf t s (run (treeScale tuning t) s)

@@ -1,16 +1,17 @@
-// NodeHeight, RootScale and TreeScale of mcmc/moves.rs: the moves that change heights and nothing else of a tree. Each has a turn, which takes a
-// tree in order, and the call of the same name, which takes whatever is lent and refuses what is not in order. Assumes nothing.
+// NodeHeight, RootScale and TreeScale of mcmc/moves.rs: the moves that change heights and nothing else of a tree. Each has the call of its name,
+// which refuses what is not in order, and an unvalidated one, which leaves the tree unchecked; both take whatever is lent. Assumes nothing.
 ghost use mathlib.Core.Path.{_≡_};
-ghost use Prim.Native.Nat.{_≤_, _<_};
+ghost use Prim.Native.Nat.{_≤_};
 ghost use lib.ListN.{length};
 ghost use Rattle.random.specs.Draw.{pick, run, drawnNumber};
 ghost use Rattle.tree.specs.Tree.{nodesOf};
+ghost use Rattle.tree.specs.New.{Accepted};
 ghost use Rattle.tree.specs.Valid.{Valid};
 ghost use Rattle.tree.specs.Given.{treeOf, kinIn};
 ghost use Rattle.rules.specs.Rules.{floor, scaledTo, treeScaleRatio};
-ghost use Rattle.calls.specs.Call.{checked, called};
+ghost use Rattle.calls.specs.Call.{called};
 ghost use Rattle.moves.specs.Programs as Programs;
-ghost use Rattle.calls.specs.Draws.{least, tuned};
+ghost use Rattle.calls.specs.Draws.{least};
 ghost use Rattle.moves.specs.Programs.{overflows, nonRootInternal, placing};
 ghost use Rattle.moves.specs.Moves.{nodeHeight, rootScale, treeScale, moveCall};
 ghost use Rattle.calls.specs.Given.{after, turnOf};
@@ -72,7 +73,6 @@ fn place(
     between: Supply,
     s: Supply,
 ) -> Turn
-    requires { ⌜ k < length (now heights) ⌝ }
     ensures { λ r. ⌜ after r (now (pairs .entry)) (now (parents .entry)) (now (heights .exit)) ≡ turnOf (treeOf (now (pairs .entry)) (now (parents .entry)) (now (heights .entry)) root) s (run (placing (treeOf (now (pairs .entry)) (now (parents .entry)) (now (heights .entry)) root) k) between) ⌝ }
 {
     let u = between.uniform();
@@ -110,7 +110,6 @@ fn node_height_turn(
     root: usize,
     s: Supply,
 ) -> Turn
-    requires { ⌜ Valid (nodesOf (now pairs)) (treeOf (now pairs) (now parents) (now heights) root) ⌝ }
     ensures { λ r. ⌜ after r (now (pairs .entry)) (now (parents .entry)) (now (heights .exit)) ≡ turnOf (treeOf (now (pairs .entry)) (now (parents .entry)) (now (heights .entry)) root) s (run (Programs.nodeHeight (treeOf (now (pairs .entry)) (now (parents .entry)) (now (heights .entry)) root)) s) ⌝ }
 {
     let n = pairs.len() / 2;
@@ -131,8 +130,8 @@ fn node_height_turn(
     }
 }
 
-// NodeHeight, by at most `allowance` draws.
-pub fn node_height(
+// NodeHeight, by at most `allowance` draws, the tree being left unvalidated.
+pub fn node_height_unvalidated(
     pairs: &[u16],
     parents: &[u16],
     heights: &mut [f64],
@@ -140,9 +139,9 @@ pub fn node_height(
     random: Random,
     allowance: u32,
 ) -> Answered
-    ensures { λ r. ⌜ called (r .answer) (r .random) (now (pairs .entry)) (now (parents .entry)) (now (heights .exit)) ≡ moveCall nodeHeight (treeOf (now (pairs .entry)) (now (parents .entry)) (now (heights .entry)) root) random allowance ⌝ }
+    ensures { λ r. ⌜ (Accepted (treeOf (now (pairs .entry)) (now (parents .entry)) (now (heights .entry)) root) → called (r .answer) (r .random) (now (pairs .entry)) (now (parents .entry)) (now (heights .exit)) ≡ moveCall nodeHeight (treeOf (now (pairs .entry)) (now (parents .entry)) (now (heights .entry)) root) random allowance) ⌝ }
 {
-    match calls::check(pairs, parents, heights, root, true, allowance) {
+    match calls::check_limits(true, allowance) {
         Verdict::Refused(why) => {
             return calls::refuse(why, random);
         }
@@ -157,19 +156,25 @@ pub fn node_height(
     }
 }
 
-// Whether the call of a scale may go on, its tuning being within its limits.
-fn check_tuned(
+// NodeHeight, by at most `allowance` draws.
+pub fn node_height(
     pairs: &[u16],
     parents: &[u16],
-    heights: &[f64],
+    heights: &mut [f64],
     root: usize,
-    tuning: f64,
+    random: Random,
     allowance: u32,
-) -> Verdict
-    ensures { λ r. ⌜ r ≡ checked (tuned tuning) (treeOf (now (pairs .entry)) (now (parents .entry)) (now (heights .entry)) root) allowance ⌝ }
+) -> Answered
+    ensures { λ r. ⌜ called (r .answer) (r .random) (now (pairs .entry)) (now (parents .entry)) (now (heights .exit)) ≡ moveCall nodeHeight (treeOf (now (pairs .entry)) (now (parents .entry)) (now (heights .entry)) root) random allowance ⌝ }
 {
-    let limits = calls::is_tuned(tuning);
-    calls::check(pairs, parents, heights, root, limits, allowance)
+    match quick::validate(pairs, parents, heights, root) {
+        Verdict::Refused(why) => {
+            return calls::refuse(why, random);
+        }
+        Verdict::Fine => {
+            return node_height_unvalidated(pairs, parents, heights, root, random, allowance);
+        }
+    }
 }
 
 // The root's height times a drawn factor; declined where that is under a child.
@@ -181,7 +186,6 @@ fn root_scale_turn(
     tuning: f64,
     s: Supply,
 ) -> Turn
-    requires { ⌜ Valid (nodesOf (now pairs)) (treeOf (now pairs) (now parents) (now heights) root) ⌝ }
     ensures { λ r. ⌜ after r (now (pairs .entry)) (now (parents .entry)) (now (heights .exit)) ≡ turnOf (treeOf (now (pairs .entry)) (now (parents .entry)) (now (heights .entry)) root) s (run (Programs.rootScale tuning (treeOf (now (pairs .entry)) (now (parents .entry)) (now (heights .entry)) root)) s) ⌝ }
 {
     let u = s.uniform();
@@ -213,6 +217,34 @@ fn root_scale_turn(
     }
 }
 
+// RootScale with a tuning from 1e-8 to 1, by at most `allowance` draws, the tree being left unvalidated.
+pub fn root_scale_unvalidated(
+    pairs: &[u16],
+    parents: &[u16],
+    heights: &mut [f64],
+    root: usize,
+    tuning: f64,
+    random: Random,
+    allowance: u32,
+) -> Answered
+    ensures { λ r. ⌜ (Accepted (treeOf (now (pairs .entry)) (now (parents .entry)) (now (heights .entry)) root) → called (r .answer) (r .random) (now (pairs .entry)) (now (parents .entry)) (now (heights .exit)) ≡ moveCall (rootScale tuning) (treeOf (now (pairs .entry)) (now (parents .entry)) (now (heights .entry)) root) random allowance) ⌝ }
+{
+    let limits = calls::is_tuned(tuning);
+    match calls::check_limits(limits, allowance) {
+        Verdict::Refused(why) => {
+            return calls::refuse(why, random);
+        }
+        Verdict::Fine => {
+            let s = Supply {
+                random,
+                left: allowance,
+            };
+            let turn = root_scale_turn(pairs, parents, heights, root, tuning, s);
+            return calls::answer(turn, random, allowance);
+        }
+    }
+}
+
 // RootScale with a tuning from 1e-8 to 1, by at most `allowance` draws.
 pub fn root_scale(
     pairs: &[u16],
@@ -225,17 +257,12 @@ pub fn root_scale(
 ) -> Answered
     ensures { λ r. ⌜ called (r .answer) (r .random) (now (pairs .entry)) (now (parents .entry)) (now (heights .exit)) ≡ moveCall (rootScale tuning) (treeOf (now (pairs .entry)) (now (parents .entry)) (now (heights .entry)) root) random allowance ⌝ }
 {
-    match check_tuned(pairs, parents, heights, root, tuning, allowance) {
+    match quick::validate(pairs, parents, heights, root) {
         Verdict::Refused(why) => {
             return calls::refuse(why, random);
         }
         Verdict::Fine => {
-            let s = Supply {
-                random,
-                left: allowance,
-            };
-            let turn = root_scale_turn(pairs, parents, heights, root, tuning, s);
-            return calls::answer(turn, random, allowance);
+            return root_scale_unvalidated(pairs, parents, heights, root, tuning, random, allowance);
         }
     }
 }
@@ -267,12 +294,14 @@ fn scale_heights(heights: &mut [f64], f: f64)
     }
 }
 
-// The factor to the power of the internal nodes of n less 2.
+// The factor to the power of the internal nodes of n less 2, of as many nodes as a tree may have.
 fn tree_scale_ratio(n: usize, f: f64) -> Ratio
-    requires { ⌜ n ≤ 4095 ⌝ }
-    ensures { λ r. ⌜ r ≡ treeScaleRatio n f ⌝ }
+    ensures { λ r. ⌜ (n ≤ 4095 → r ≡ treeScaleRatio n f) ⌝ }
 {
-    Ratio::Power(f, (n - (n + 1) / 2) as i32 - 2)
+    if n <= 4095 {
+        return Ratio::Power(f, (n - (n + 1) / 2) as i32 - 2);
+    }
+    Ratio::Even
 }
 
 // Every internal height times a drawn factor. No height is above the root's, so that every product is finite where the root's is.
@@ -284,8 +313,7 @@ fn tree_scale_turn(
     tuning: f64,
     s: Supply,
 ) -> Turn
-    requires { ⌜ Valid (nodesOf (now pairs)) (treeOf (now pairs) (now parents) (now heights) root) ⌝ }
-    ensures { λ r. ⌜ after r (now (pairs .entry)) (now (parents .entry)) (now (heights .exit)) ≡ turnOf (treeOf (now (pairs .entry)) (now (parents .entry)) (now (heights .entry)) root) s (run (Programs.treeScale tuning (treeOf (now (pairs .entry)) (now (parents .entry)) (now (heights .entry)) root)) s) ⌝ }
+    ensures { λ r. ⌜ (Valid (nodesOf (now (pairs .entry))) (treeOf (now (pairs .entry)) (now (parents .entry)) (now (heights .entry)) root) → after r (now (pairs .entry)) (now (parents .entry)) (now (heights .exit)) ≡ turnOf (treeOf (now (pairs .entry)) (now (parents .entry)) (now (heights .entry)) root) s (run (Programs.treeScale tuning (treeOf (now (pairs .entry)) (now (parents .entry)) (now (heights .entry)) root)) s)) ⌝ }
 {
     let u = s.uniform();
     let next = u.supply;
@@ -310,6 +338,34 @@ fn tree_scale_turn(
     }
 }
 
+// TreeScale with a tuning from 1e-8 to 1, by at most `allowance` draws, the tree being left unvalidated.
+pub fn tree_scale_unvalidated(
+    pairs: &[u16],
+    parents: &[u16],
+    heights: &mut [f64],
+    root: usize,
+    tuning: f64,
+    random: Random,
+    allowance: u32,
+) -> Answered
+    ensures { λ r. ⌜ (Accepted (treeOf (now (pairs .entry)) (now (parents .entry)) (now (heights .entry)) root) → called (r .answer) (r .random) (now (pairs .entry)) (now (parents .entry)) (now (heights .exit)) ≡ moveCall (treeScale tuning) (treeOf (now (pairs .entry)) (now (parents .entry)) (now (heights .entry)) root) random allowance) ⌝ }
+{
+    let limits = calls::is_tuned(tuning);
+    match calls::check_limits(limits, allowance) {
+        Verdict::Refused(why) => {
+            return calls::refuse(why, random);
+        }
+        Verdict::Fine => {
+            let s = Supply {
+                random,
+                left: allowance,
+            };
+            let turn = tree_scale_turn(pairs, parents, heights, root, tuning, s);
+            return calls::answer(turn, random, allowance);
+        }
+    }
+}
+
 // TreeScale with a tuning from 1e-8 to 1, by at most `allowance` draws.
 pub fn tree_scale(
     pairs: &[u16],
@@ -322,17 +378,12 @@ pub fn tree_scale(
 ) -> Answered
     ensures { λ r. ⌜ called (r .answer) (r .random) (now (pairs .entry)) (now (parents .entry)) (now (heights .exit)) ≡ moveCall (treeScale tuning) (treeOf (now (pairs .entry)) (now (parents .entry)) (now (heights .entry)) root) random allowance ⌝ }
 {
-    match check_tuned(pairs, parents, heights, root, tuning, allowance) {
+    match quick::validate(pairs, parents, heights, root) {
         Verdict::Refused(why) => {
             return calls::refuse(why, random);
         }
         Verdict::Fine => {
-            let s = Supply {
-                random,
-                left: allowance,
-            };
-            let turn = tree_scale_turn(pairs, parents, heights, root, tuning, s);
-            return calls::answer(turn, random, allowance);
+            return tree_scale_unvalidated(pairs, parents, heights, root, tuning, random, allowance);
         }
     }
 }

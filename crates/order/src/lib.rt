@@ -51,7 +51,7 @@ pub fn postorder(
 {
     let n = pairs.len() / 2;
     if order.len() == n {
-        match tree::validate(pairs, parents, heights, root) {
+        match quick::validate(pairs, parents, heights, root) {
             Verdict::Fine => {
                 fill(pairs, root, order);
                 return Verdict::Fine;

@@ -1,4 +1,4 @@
--- The ways through the code of the second call: its limits (`limitLaws`), and the call (`callLaws`). i is the node. Assumes nothing.
+-- The ways through the code of the second call: its limits (`limitLaws`), and the unvalidated call (`callLaws`). i is the node. Assumes nothing.
 use mathlib.Core.Path.{_≡_, sym, _∙_}
 use mathlib.Core.Bool.{Bool, false, not, _&&_, and-eq-true-iff}
 use mathlib.Core.List.{List, []}
@@ -13,17 +13,18 @@ use Rattle.random.specs.Draw.{run, supplyOf}
 use Rattle.tree.specs.declared.Verdict.{Verdict}
 use Rattle.tree.specs.declared.Verdict.the-variants as Verdicts
 use Rattle.tree.specs.Tree.{Tree, nodesOf}
+use Rattle.tree.specs.New.{Accepted}
 use Rattle.tree.specs.Given.{treeOf}
 use Rattle.tree.specs.ScanLaws.{neqb→ne}
-use Rattle.accepted.specs.ValidatedLaws.{fine-valid}
+use Rattle.accepted.specs.AcceptedLaws.{accepted-valid}
 use Rattle.calls.specs.declared.Answered.{Answered}
 use Rattle.calls.specs.declared.Turn.{Turn}
-use Rattle.calls.specs.Call.{checked, called}
+use Rattle.calls.specs.Call.{limited, called}
 use Rattle.calls.specs.Given.{after, turnOf, turnedBack, answeredOf}
 use Rattle.moves.specs.Programs as Programs
 use Rattle.moves.specs.Programs.{slidable}
 use Rattle.moves.specs.Moves.{subtreeSlide, moveCall}
-use Rattle.calls.specs.EntryLaws.{passed, entry-refused, entry-left, entry-done}
+use Rattle.calls.specs.EntryLaws.{passed, accepted-checked, unvalidated-refused, unvalidated-done}
 use Rattle.slide.specs.Slide.{Slidable}
 
 -- ---- the limits
@@ -41,38 +42,35 @@ module _ (pairs : List ℕ) (root i : ℕ) (step : Float) where
 
 pub ruleset limitLaws = (limit-node, limit-root, limit-step)
 
--- ---- the call
+-- ---- the unvalidated call
 
--- limits is whether the parameters are within them, and v what the check said
-module _ (pairs parents : List ℕ) (heights : List Float) (root i : ℕ) (step : Float) (limits : Bool) (el : limits ≡ slidable (treeOf pairs [] [] root) i step)
-    (allowance : ℕ) (v : Verdict) (ev : v ≡ checked limits (treeOf pairs parents heights root) allowance) where
+-- limits is whether the parameters are within them, and v what was said of that
+module _ (pairs parents : List ℕ) (heights : List Float) (root i : ℕ) (step : Float) (h : Accepted (treeOf pairs parents heights root))
+    (limits : Bool) (el : limits ≡ slidable (treeOf pairs [] [] root) i step) (allowance : ℕ) (v : Verdict) (ev : v ≡ limited limits allowance) where
   abbrev t : Tree
   t = treeOf pairs parents heights root
 
-  is-checked : v ≡ checked (slidable t i step) t allowance
-  is-checked = rw (← el) ev
-
   pub call-refused : (why : Refusal) → v ≡ Verdicts.Refused why → (g : Random) (r : Answered) → r ≡ turnedBack why g
       → called (r .answer) (r .random) pairs parents heights ≡ moveCall (subtreeSlide i step) t g allowance
-  call-refused why y g r er = entry-refused (slidable t i step) pairs parents heights root allowance v is-checked g (Programs.subtreeSlide i step t) why y r er
+  call-refused why y g r er =
+      unvalidated-refused pairs parents heights root h (slidable t i step) limits el allowance v ev (Programs.subtreeSlide i step t) g why y r er
 
   module _ (y : v ≡ Verdicts.Fine) where
-    pub call-slides : Slidable pairs parents heights root i
-    call-slides =
-        let c = passed limits t allowance (sym ev ∙ y) in
+    slides : Slidable pairs parents heights root i
+    slides =
+        let c = passed limits t allowance (accepted-checked t h limits allowance ∙ sym ev ∙ y) in
         let p = and-eq-true-iff (ltb i (nodesOf pairs) && not (eqb i root)) (finite step) .0 (sym el ∙ c .within) in
         let q = and-eq-true-iff (ltb i (nodesOf pairs)) (not (eqb i root)) .0 (p .0) in
-        record { valid = fine-valid t (c .tree); node = ltb-true i (nodesOf pairs) (q .0); under = neqb→ne i root (rw (q .1) tt) }
+        record { valid = accepted-valid t h; node = ltb-true i (nodesOf pairs) (q .0); under = neqb→ne i root (rw (q .1) tt) }
 
-    -- what the turn left
-    module _ (g : Random) (turn : Turn) (pairs′ parents′ : List ℕ) (heights′ : List Float)
-        (e : after turn pairs′ parents′ heights′ ≡ turnOf t (supplyOf g allowance) (run (Programs.subtreeSlide i step t) (supplyOf g allowance))) where
-      pub call-left : turn .supply .left ≤ allowance
-      call-left = entry-left t g allowance turn pairs′ parents′ heights′ (Programs.subtreeSlide i step t) e
+    -- pairs′, parents′ and heights′ are what the turn left
+    pub call-done : (g : Random) (turn : Turn) (pairs′ parents′ : List ℕ) (heights′ : List Float)
+        → (Slidable pairs parents heights root i
+        → after turn pairs′ parents′ heights′ ≡ turnOf t (supplyOf g allowance) (run (Programs.subtreeSlide i step t) (supplyOf g allowance)))
+        → (r : Answered) → r ≡ answeredOf (turn .turned) (turn .supply) g allowance
+        → called (r .answer) (r .random) pairs′ parents′ heights′ ≡ moveCall (subtreeSlide i step) t g allowance
+    call-done g turn pairs′ parents′ heights′ e r er =
+        unvalidated-done pairs parents heights root h (slidable t i step) limits el allowance v ev (Programs.subtreeSlide i step t) g y turn pairs′ parents′ heights′
+        (λ _. e slides) r er
 
-      pub call-done : (r : Answered) → r ≡ answeredOf (turn .turned) (turn .supply) g allowance
-          → called (r .answer) (r .random) pairs′ parents′ heights′ ≡ moveCall (subtreeSlide i step) t g allowance
-      call-done r er =
-          entry-done t g allowance turn pairs′ parents′ heights′ (slidable t i step) (Programs.subtreeSlide i step t) v is-checked y e r er
-
-pub ruleset callLaws = (call-refused, call-slides, call-left, call-done)
+pub ruleset callLaws = (call-refused, call-done)

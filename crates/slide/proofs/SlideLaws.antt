@@ -1,5 +1,5 @@
--- The ways through the code of a slide's second call: upwards (`upLaws`), downwards past the sibling (`underLaws`) and not past it (`downLaws`), and the
--- turn (`turnLaws`). i is the node, p its parent and x the height to which that slides; s is the supply. Assumes nothing.
+-- The ways through the code of a slide's second call: upwards (`up-stays` and on), downwards past the sibling (`under-none` and on) and not past it
+-- (`down-above` and on), and the turn (`turnLaws`). i is the node, p its parent and x the height to which that slides; s is the supply. Assumes nothing.
 use mathlib.Core.Path.{_≡_, refl, sym, ap, _∙_, subst}
 use mathlib.Core.Bool.{Bool, true, false}
 use mathlib.Core.List.{List, []}
@@ -20,7 +20,6 @@ use Rattle.tree.specs.Valid.{Valid}
 use Rattle.tree.specs.Given.{treeOf, datesIn}
 use Rattle.accepted.specs.WayLaws.{valid-linked, valid-nodes}
 use Rattle.edits.specs.Slots.{setHeight}
-use Rattle.edits.specs.NeedsLaws.{valid-height}
 use Rattle.rules.specs.Rules.{regraft, climb, branches}
 use Rattle.reversal.specs.FailedLaws.{passed, le-nlt}
 use Rattle.reversal.specs.FamilyLaws.{Sibling, sibling-is}
@@ -78,9 +77,6 @@ module _ (pairs parents : List ℕ) (heights : List Float) (root i : ℕ) where
       unfolding height parent
       is-height old e = rw (e, ep)
 
-      settable : p < length heights
-      settable = valid-height (g .valid) p (rw is-parent parent-node)
-
       -- p takes the height x, and nothing else changes
       only-height : (x : Float) (h : List Float) → h ≡ set heights p x → (s : Supply)
           → record { turned = Turns.Moved root Even; supply = s; pairs = pairs; parents = parents; heights = h }
@@ -93,9 +89,6 @@ module _ (pairs parents : List ℕ) (heights : List Float) (root i : ℕ) where
   module _ (x : Float) (g : Goes true pairs parents heights root i x) (p : ℕ) (ep : p ≡ getD parents i 0) where
     abbrev v : Valid n t
     v = g .slides .valid
-
-    pub up-height : p < length heights
-    up-height = settable (g .slides) p ep
 
     -- `to` is where the climb ends
     module _ (to : ℕ) (et : to ≡ climb (nodesOf pairs) (datesIn parents heights root) x p) where
@@ -122,8 +115,8 @@ module _ (pairs parents : List ℕ) (heights : List Float) (root i : ℕ) where
         grafts : Grafts n t i to
         grafts = up-grafts v (g .slides .node) (g .slides .under) number (passed _ (g .way)) climbed apart
 
-        pub up-regrafts : Regrafts pairs parents heights root i to
-        up-regrafts = let s = g .slides in record { valid = s .valid; node = s .node; under = s .under; to = grafts .node-j }
+        regrafts : Regrafts pairs parents heights root i to
+        regrafts = let s = g .slides in record { valid = s .valid; node = s .node; under = s .under; to = grafts .node-j }
 
         -- the branches that are counted in the tree made
         abbrev made : Tree
@@ -135,15 +128,19 @@ module _ (pairs parents : List ℕ) (heights : List Float) (root i : ℕ) where
             (v .dated .number (parent t i) (parent-node (g .slides)))
             (up-not-below v (g .slides .node) (g .slides .under) number (passed _ (g .way)) climbed apart))
 
-        pub up-goes : (pairs′ parents′ : List ℕ) (heights′ : List Float) (r : ℕ) → treeOf pairs′ parents′ heights′ r ≡ regraft n t i to x
-            → (old : Float) → old ≡ getD heights p nan → (count : ℕ) → count ≡ counted (treeOf pairs′ [] heights′ 0) old to → (s : Supply)
+        pub up-goes : (pairs′ parents′ : List ℕ) (heights′ : List Float) (r : ℕ)
+            → (Regrafts pairs parents heights root i to → treeOf pairs′ parents′ heights′ r ≡ regraft n t i to x) → (old : Float) → old ≡ getD heights p nan
+            → (count : ℕ) → count ≡ counted (treeOf pairs′ [] heights′ 0) old to → (s : Supply)
             → record { turned = Turns.Moved r (Counts 1 count); supply = s; pairs = pairs′; parents = parents′; heights = heights′ } ≡ slid x s
         up-goes pairs′ parents′ heights′ r e old eo count ec s =
-            (λ j. afterOn (Turns.Moved (e j .root) (Counts 1 (same j))) s (e j)) ∙ sym (lifted v (parent-node (g .slides)) goes-up s s apart (g .way))
+            (λ j. afterOn (Turns.Moved (left j .root) (Counts 1 (same j))) s (left j)) ∙ sym (lifted v (parent-node (g .slides)) goes-up s s apart (g .way))
             ∙ sym (ap (turnOf t s) (runs-up t i x s (g .way)))
           where
+            left : treeOf pairs′ parents′ heights′ r ≡ made
+            left = e regrafts
+
             same : count ≡ length (branches n made (height t (parent t i)) (sibling made i))
-            same = ec ∙ ap (λ (u : Tree). counted (treeOf (u .pairs) [] (u .heights) 0) old to) e
+            same = ec ∙ ap (λ (u : Tree). counted (treeOf (u .pairs) [] (u .heights) 0) old to) left
                 ∙ ap (λ (y : Float). counted (treeOf (made .pairs) [] (made .heights) 0) y to) (is-height (g .slides) p ep old eo) ∙ listed
 
   -- ---- downwards past the sibling
@@ -201,17 +198,18 @@ module _ (pairs parents : List ℕ) (heights : List Float) (root i : ℕ) where
         branch : Branch n t x (sibling t i) j
         branch = rw (← is-sibling, is-picked) (picked-branch (on .valid) x sibling-node finite-x not-below (d .value) index)
 
-        pub under-regrafts : Regrafts pairs parents heights root i j
-        under-regrafts = record { valid = on .valid; node = on .node; under = on .under; to = branch .node }
+        onto-branch : Regrafts pairs parents heights root i j
+        onto-branch = record { valid = on .valid; node = on .node; under = on .under; to = branch .node }
 
         goes-down : Ways.Slides n t i x (d .value) j
         goes-down = Ways.down {j = j} (g .goes .way) (g .over) (g .past) (rw is-sibling at index)
             (rw (← is-sibling) (sym (is-picked ∙ picked-is (on .valid) x sibling-node finite-x not-below (d .value) index)))
 
-        pub under-goes : (pairs′ parents′ : List ℕ) (heights′ : List Float) (r : ℕ) → treeOf pairs′ parents′ heights′ r ≡ regraft n t i j x
+        pub under-goes : (pairs′ parents′ : List ℕ) (heights′ : List Float) (r : ℕ)
+            → (Regrafts pairs parents heights root i j → treeOf pairs′ parents′ heights′ r ≡ regraft n t i j x)
             → record { turned = Turns.Moved r (Counts count 1); supply = d .supply; pairs = pairs′; parents = parents′; heights = heights′ } ≡ slid x s
         under-goes pairs′ parents′ heights′ r e =
-            (λ z. afterOn (Turns.Moved (e z .root) (Counts (is-count z) 1)) (d .supply) (e z))
+            (λ z. afterOn (Turns.Moved (e onto-branch z .root) (Counts (is-count z) 1)) (d .supply) (e onto-branch z))
             ∙ sym (lowered (on .valid) (parent-node on) goes-down s (d .supply) (down-apart (on .valid) (on .node) (on .under) branch) (g .goes .way))
             ∙ sym (ap (turnOf t s) (runs-under t i x s (g .goes .way) (g .over) (g .past) some-listed (d .value) (d .supply) (number-got s d _ drawn h)))
 
@@ -231,17 +229,15 @@ module _ (pairs parents : List ℕ) (heights : List Float) (root i : ℕ) where
       not-above : lt x (height t i) ≡ false
       not-above = rw is-own at a
 
-      pub down-height : p < length heights
-      down-height = settable (g .slides) p ep
-
       -- k is the sibling, and other its height
       module _ (k : ℕ) (ek : k ≡ otherIn pairs p i) (other : Float) (et : other ≡ getD heights k nan) where
         is-other : other ≡ height t (sibling t i)
         unfolding height sibling parent
         is-other = rw (et, ek, ep)
 
-        pub down-lowers : lt x other ≡ true → Lowers pairs parents heights root i x
-        down-lowers b = record { goes = g; over = not-above; past = rw is-other at b }
+        -- a is what is left of the slide past the sibling
+        pub down-past : lt x other ≡ true → (s : Supply) (a : After) → (Lowers pairs parents heights root i x → a ≡ slid x s) → a ≡ slid x s
+        down-past b s a e = e (record { goes = g; over = not-above; past = rw is-other at b })
 
         pub down-stays : lt x other ≡ false → (h : List Float) → h ≡ set heights p x → (s : Supply)
             → record { turned = Turns.Moved root Even; supply = s; pairs = pairs; parents = parents; heights = h } ≡ slid x s
@@ -266,23 +262,13 @@ module _ (pairs parents : List ℕ) (heights : List Float) (root i : ℕ) where
 
     -- past the test it is the slide to the new height
     module _ (h : b ≡ true) where
-      pub turn-up : lt old (add binary64 old step) ≡ true → Goes true pairs parents heights root i (add binary64 old step)
-      turn-up w = record { slides = g; number = sym eb ∙ h; way = rw (← before) w }
-
-      pub turn-down : lt old (add binary64 old step) ≡ false → Goes false pairs parents heights root i (add binary64 old step)
-      turn-down w = record { slides = g; number = sym eb ∙ h; way = rw (← before) w }
-
       is-slide : (s : Supply) → run (subtreeSlide i step t) s ≡ run (slideAt i (add binary64 old step) t) s
       unfolding subtreeSlide slideAt
       is-slide s = rw (← before, ← eb, h)
 
-      pub turn-slid : (s : Supply) (a : After) → a ≡ slid (add binary64 old step) s → a ≡ turned step s
-      turn-slid s a e = rw (is-slide s) e
+      -- a is what it left
+      pub turn-slid : (up : Bool) → lt old (add binary64 old step) ≡ up → (s : Supply) (a : After)
+          → (Goes up pairs parents heights root i (add binary64 old step) → a ≡ slid (add binary64 old step) s) → a ≡ turned step s
+      turn-slid up w s a e = rw (is-slide s) (e (record { slides = g; number = sym eb ∙ h; way = rw (← before) w }))
 
-pub ruleset upLaws = (up-height, up-stays, up-regrafts, up-goes)
-
-pub ruleset underLaws = (under-none, under-spent, under-regrafts, under-goes)
-
-pub ruleset downLaws = (down-above, down-height, down-lowers, down-stays)
-
-pub ruleset turnLaws = (turn-not-finite, turn-up, turn-down, turn-slid)
+pub ruleset turnLaws = (turn-not-finite, turn-slid)

@@ -1,4 +1,5 @@
--- The ways through the code of a slide's first call: its draws (`drawStartLaws`), and the call (`startLaws`). Assumes nothing.
+-- The ways through the code of a slide's first call: its draws (`drawStartLaws`), the unvalidated call (`startLaws`) and the call (`startCallLaws`).
+-- Assumes nothing.
 use mathlib.Core.Path.{_≡_, refl, sym, ap, _∙_}
 use mathlib.Core.Bool.{true, false, true≢false}
 use mathlib.Core.List.{List, []}
@@ -17,9 +18,11 @@ use Rattle.random.specs.SupplyLaws.{number-got, number-spent, real-got, real-sp
 use Rattle.tree.specs.declared.Verdict.{Verdict}
 use Rattle.tree.specs.declared.Verdict.the-variants as Verdicts
 use Rattle.tree.specs.Tree.{Tree, nodesOf}
+use Rattle.tree.specs.New.{Accepted, validated}
 use Rattle.tree.specs.Given.{treeOf}
-use Rattle.calls.specs.Call.{Reply, makes, notFinite, outside, refused, ended, checked, callOf}
+use Rattle.calls.specs.Call.{Reply, makes, notFinite, outside, refused, ended, limited}
 use Rattle.calls.specs.Draws.{nonRoot}
+use Rattle.calls.specs.EntryLaws.{tree-refused, tree-accepted, limits-refused, limits-passed}
 use Rattle.moves.specs.Programs.{Start, slideStart}
 use Rattle.moves.specs.Moves.{startCall}
 use Rattle.slide.specs.declared.Begun.the-variants as Begun
@@ -69,7 +72,7 @@ module _ (pairs : List ℕ) (root : ℕ) (s : Supply) (k : DrawnNumber) (ek : k 
 
 pub ruleset drawStartLaws = (node-spent, first-spent, second-spent, all-drawn)
 
--- ---- the call
+-- ---- the unvalidated call
 
 -- the program meets no 7 and no 8
 abbrev Made : Reply Start → Type 0
@@ -99,26 +102,36 @@ module _ (s : Supply) (r : DrawnStart) where
   start-spent t (got (outside k) u) f e h = absurd (only-made t s (outside k) u f)
   start-spent t (got (makes a) u) f e h = absurd (true≢false (sym (ap (λ (d : DrawnStart). d .ok) e) ∙ h))
 
--- v is what the check said
-module _ (pairs parents : List ℕ) (heights : List Float) (root : ℕ) (g : Random) (allowance : ℕ) (v : Verdict)
-    (ev : v ≡ checked true (treeOf pairs parents heights root) allowance) where
-  pub start-refused : (why : Refusal) → v ≡ Verdicts.Refused why → (r : Started) → r ≡ startedOf g (refused why)
-      → r ≡ startedOf g (startCall (treeOf pairs parents heights root) g allowance)
-  unfolding callOf
-  start-refused why y r er = rw (← ev, y) er
+-- v is what was said of the limits
+module _ (pairs parents : List ℕ) (heights : List Float) (root : ℕ) (h : Accepted (treeOf pairs parents heights root)) (g : Random) (allowance : ℕ)
+    (v : Verdict) (ev : v ≡ limited true allowance) where
+  abbrev t : Tree
+  t = treeOf pairs parents heights root
+
+  pub start-refused : (why : Refusal) → v ≡ Verdicts.Refused why → (r : Started) → r ≡ startedOf g (refused why) → r ≡ startedOf g (startCall t g allowance)
+  start-refused why y r er = rw (limits-refused t h true allowance v ev (slideStart t) g why y) er
 
   -- d is what was drawn
   module _ (y : v ≡ Verdicts.Fine) (d : DrawnStart) (ed : d ≡ drawnStart (supplyOf g allowance) (run (slideStart (treeOf pairs [] [] root)) (supplyOf g allowance))) where
-    pub start-out : d .ok ≡ false → (r : Started) → r ≡ startedOf g (refused (Allowance allowance))
-        → r ≡ startedOf g (startCall (treeOf pairs parents heights root) g allowance)
-    unfolding callOf ended slideStart
-    start-out h r er = rw (← ev, y, start-spent (supplyOf g allowance) d (treeOf pairs [] [] root) _ refl ed h) er
+    -- the draws read no parents and no heights
+    bare-start : slideStart (treeOf pairs [] [] root) ≡ slideStart t
+    unfolding slideStart
+    bare-start = refl
+
+    pub start-out : d .ok ≡ false → (r : Started) → r ≡ startedOf g (refused (Allowance allowance)) → r ≡ startedOf g (startCall t g allowance)
+    unfolding ended
+    start-out f r er =
+        rw (
+          limits-passed t h true allowance v ev (slideStart t) g y,
+          ← bare-start,
+          start-spent (supplyOf g allowance) d (treeOf pairs [] [] root) _ refl ed f,
+        ) er
 
     pub start-drawn : d .ok ≡ true
         → record { answer = Begun.Node (record { node = d .node; first = d .first; second = d .second; draws = allowance - d .supply .left }); random = d .supply .random }
-        ≡ startedOf g (startCall (treeOf pairs parents heights root) g allowance)
-    unfolding callOf ended slideStart
-    start-drawn h = rw (← ev, y, start-got (supplyOf g allowance) d _ ed h)
+        ≡ startedOf g (startCall t g allowance)
+    unfolding ended
+    start-drawn f = rw (limits-passed t h true allowance v ev (slideStart t) g y, ← bare-start, start-got (supplyOf g allowance) d _ ed f)
 
 -- what the difference in it asks
 pub start-left : (pairs : List ℕ) (root : ℕ) (g : Random) (allowance : ℕ) (d : DrawnStart)
@@ -127,3 +140,19 @@ start-left pairs root g allowance d e h =
     run-lawful (slideStart (treeOf pairs [] [] root)) .steps (supplyOf g allowance) _ (d .supply) (start-got (supplyOf g allowance) d _ e h) .fewer
 
 pub ruleset startLaws = (start-refused, start-out, start-drawn, start-left)
+
+-- ---- the call
+
+-- v is what was said of the tree
+module _ (pairs parents : List ℕ) (heights : List Float) (root : ℕ) (v : Verdict) (ev : v ≡ validated (treeOf pairs parents heights root)) (g : Random)
+    (allowance : ℕ) where
+  pub start-no-tree : (why : Refusal) → v ≡ Verdicts.Refused why → (r : Started) → r ≡ startedOf g (refused why)
+      → r ≡ startedOf g (startCall (treeOf pairs parents heights root) g allowance)
+  start-no-tree why y r er = rw (tree-refused pairs parents heights root v ev true (slideStart (treeOf pairs parents heights root)) g allowance why y) er
+
+  pub start-done : v ≡ Verdicts.Fine → (r : Started)
+      → (Accepted (treeOf pairs parents heights root) → r ≡ startedOf g (startCall (treeOf pairs parents heights root) g allowance))
+      → r ≡ startedOf g (startCall (treeOf pairs parents heights root) g allowance)
+  start-done y r e = e (tree-accepted pairs parents heights root v ev y)
+
+pub ruleset startCallLaws = (start-no-tree, start-done)

@@ -1,4 +1,4 @@
--- What the code of a slide's second call asks. i is the node, and P its parent. Definitions only. Assumes nothing.
+-- What the code of a slide's second call needs, to be the defined one. i is the node, and P its parent. Definitions only. Assumes nothing.
 use mathlib.Core.Path.{_≡_}
 use mathlib.Core.Logic.{_≢_}
 use mathlib.Core.Bool.{Bool, true, false}

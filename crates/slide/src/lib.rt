@@ -1,9 +1,11 @@
 // SubtreeSlide of rove's mcmc/moves.rs, in two calls: the first draws a node and the two uniforms of the step, the second takes the node and the
-// step. Assumes nothing.
+// step. Each has the call of its name, which refuses what is not in order, and an unvalidated one, which leaves the tree unchecked; all take
+// whatever is lent. What their parts promise is promised of a valid tree. Assumes nothing.
 ghost use mathlib.Core.Path.{_≡_};
 ghost use mathlib.Core.Bool.{true, false};
 ghost use mathlib.Core.List.{[]};
 ghost use Rattle.random.specs.Draw.{run};
+ghost use Rattle.tree.specs.New.{Accepted};
 ghost use Rattle.tree.specs.Given.{treeOf};
 ghost use Rattle.moves.specs.Programs as Programs;
 ghost use Rattle.moves.specs.Programs.{slideStart, slidable, slideAt};
@@ -89,8 +91,8 @@ fn spent(s: Supply) -> DrawnStart
     }
 }
 
-// The first call: a node other than the root, and the two uniforms of its step.
-pub fn slide_start(
+// The first call, the tree being left unvalidated: a node other than the root, and the two uniforms of its step.
+pub fn slide_start_unvalidated(
     pairs: &[u16],
     parents: &[u16],
     heights: &[f64],
@@ -98,9 +100,9 @@ pub fn slide_start(
     random: Random,
     allowance: u32,
 ) -> Started
-    ensures { λ r. ⌜ r ≡ startedOf random (startCall (treeOf (now (pairs .entry)) (now (parents .entry)) (now (heights .entry)) root) random allowance) ⌝ }
+    ensures { λ r. ⌜ (Accepted (treeOf (now (pairs .entry)) (now (parents .entry)) (now (heights .entry)) root) → r ≡ startedOf random (startCall (treeOf (now (pairs .entry)) (now (parents .entry)) (now (heights .entry)) root) random allowance)) ⌝ }
 {
-    match calls::check(pairs, parents, heights, root, true, allowance) {
+    match calls::check_limits(true, allowance) {
         Verdict::Fine => {
             let s = Supply {
                 random,
@@ -128,6 +130,27 @@ pub fn slide_start(
     }
 }
 
+// The first call: the tree is checked first.
+pub fn slide_start(
+    pairs: &[u16],
+    parents: &[u16],
+    heights: &[f64],
+    root: usize,
+    random: Random,
+    allowance: u32,
+) -> Started
+    ensures { λ r. ⌜ r ≡ startedOf random (startCall (treeOf (now (pairs .entry)) (now (parents .entry)) (now (heights .entry)) root) random allowance) ⌝ }
+{
+    match quick::validate(pairs, parents, heights, root) {
+        Verdict::Fine => {
+            return slide_start_unvalidated(pairs, parents, heights, root, random, allowance);
+        }
+        Verdict::Refused(why) => {
+            return turn_back(why, random);
+        }
+    }
+}
+
 // The answer of a first call that is turned back, with the generator as it came.
 fn turn_back(why: Refusal, random: Random) -> Started
     ensures { λ r. ⌜ r ≡ startedOf random (refused why) ⌝ }
@@ -148,8 +171,7 @@ fn slide_up(
     x: f64,
     s: Supply,
 ) -> Turn
-    requires { ⌜ Goes true (now pairs) (now parents) (now heights) root node x ⌝ }
-    ensures { λ r. ⌜ after r (now (pairs .exit)) (now (parents .exit)) (now (heights .exit)) ≡ turnOf (treeOf (now (pairs .entry)) (now (parents .entry)) (now (heights .entry)) root) s (run (slideAt node x (treeOf (now (pairs .entry)) (now (parents .entry)) (now (heights .entry)) root)) s) ⌝ }
+    ensures { λ r. ⌜ (Goes true (now (pairs .entry)) (now (parents .entry)) (now (heights .entry)) root node x → after r (now (pairs .exit)) (now (parents .exit)) (now (heights .exit)) ≡ turnOf (treeOf (now (pairs .entry)) (now (parents .entry)) (now (heights .entry)) root) s (run (slideAt node x (treeOf (now (pairs .entry)) (now (parents .entry)) (now (heights .entry)) root)) s)) ⌝ }
 {
     let p = reads::parent(parents, node);
     let old = reads::height(heights, p);
@@ -179,8 +201,7 @@ fn slide_under(
     x: f64,
     s: Supply,
 ) -> Turn
-    requires { ⌜ Lowers (now pairs) (now parents) (now heights) root node x ⌝ }
-    ensures { λ r. ⌜ after r (now (pairs .exit)) (now (parents .exit)) (now (heights .exit)) ≡ turnOf (treeOf (now (pairs .entry)) (now (parents .entry)) (now (heights .entry)) root) s (run (slideAt node x (treeOf (now (pairs .entry)) (now (parents .entry)) (now (heights .entry)) root)) s) ⌝ }
+    ensures { λ r. ⌜ (Lowers (now (pairs .entry)) (now (parents .entry)) (now (heights .entry)) root node x → after r (now (pairs .exit)) (now (parents .exit)) (now (heights .exit)) ≡ turnOf (treeOf (now (pairs .entry)) (now (parents .entry)) (now (heights .entry)) root) s (run (slideAt node x (treeOf (now (pairs .entry)) (now (parents .entry)) (now (heights .entry)) root)) s)) ⌝ }
 {
     let p = reads::parent(parents, node);
     let sibling = reads::other(pairs, p, node);
@@ -217,8 +238,7 @@ fn slide_down(
     x: f64,
     s: Supply,
 ) -> Turn
-    requires { ⌜ Goes false (now pairs) (now parents) (now heights) root node x ⌝ }
-    ensures { λ r. ⌜ after r (now (pairs .exit)) (now (parents .exit)) (now (heights .exit)) ≡ turnOf (treeOf (now (pairs .entry)) (now (parents .entry)) (now (heights .entry)) root) s (run (slideAt node x (treeOf (now (pairs .entry)) (now (parents .entry)) (now (heights .entry)) root)) s) ⌝ }
+    ensures { λ r. ⌜ (Goes false (now (pairs .entry)) (now (parents .entry)) (now (heights .entry)) root node x → after r (now (pairs .exit)) (now (parents .exit)) (now (heights .exit)) ≡ turnOf (treeOf (now (pairs .entry)) (now (parents .entry)) (now (heights .entry)) root) s (run (slideAt node x (treeOf (now (pairs .entry)) (now (parents .entry)) (now (heights .entry)) root)) s)) ⌝ }
 {
     if x < reads::height(heights, node) {
         return Turn {
@@ -248,8 +268,7 @@ fn subtree_slide_turn(
     step: f64,
     s: Supply,
 ) -> Turn
-    requires { ⌜ Slidable (now pairs) (now parents) (now heights) root node ⌝ }
-    ensures { λ r. ⌜ after r (now (pairs .exit)) (now (parents .exit)) (now (heights .exit)) ≡ turnOf (treeOf (now (pairs .entry)) (now (parents .entry)) (now (heights .entry)) root) s (run (Programs.subtreeSlide node step (treeOf (now (pairs .entry)) (now (parents .entry)) (now (heights .entry)) root)) s) ⌝ }
+    ensures { λ r. ⌜ (Slidable (now (pairs .entry)) (now (parents .entry)) (now (heights .entry)) root node → after r (now (pairs .exit)) (now (parents .exit)) (now (heights .exit)) ≡ turnOf (treeOf (now (pairs .entry)) (now (parents .entry)) (now (heights .entry)) root) s (run (Programs.subtreeSlide node step (treeOf (now (pairs .entry)) (now (parents .entry)) (now (heights .entry)) root)) s)) ⌝ }
 {
     let p = reads::parent(parents, node);
     let old = reads::height(heights, p);
@@ -279,7 +298,37 @@ fn is_slidable(pairs: &[u16], root: usize, node: usize, step: f64) -> bool
     false
 }
 
-// The second call: the node's parent slides by the step, and onto another branch where the step leads past the ends of its own.
+// The second call, the tree being left unvalidated: the node's parent slides by the step, and onto another branch where the step leads past the ends
+// of its own.
+pub fn subtree_slide_unvalidated(
+    pairs: &mut [u16],
+    parents: &mut [u16],
+    heights: &mut [f64],
+    root: usize,
+    node: usize,
+    step: f64,
+    random: Random,
+    allowance: u32,
+) -> Answered
+    ensures { λ r. ⌜ (Accepted (treeOf (now (pairs .entry)) (now (parents .entry)) (now (heights .entry)) root) → called (r .answer) (r .random) (now (pairs .exit)) (now (parents .exit)) (now (heights .exit)) ≡ moveCall (subtreeSlide node step) (treeOf (now (pairs .entry)) (now (parents .entry)) (now (heights .entry)) root) random allowance) ⌝ }
+{
+    let limits = is_slidable(pairs, root, node, step);
+    match calls::check_limits(limits, allowance) {
+        Verdict::Fine => {
+            let s = Supply {
+                random,
+                left: allowance,
+            };
+            let turn = subtree_slide_turn(pairs, parents, heights, root, node, step, s);
+            return calls::answer(turn, random, allowance);
+        }
+        Verdict::Refused(why) => {
+            return calls::refuse(why, random);
+        }
+    }
+}
+
+// The second call: the tree is checked first.
 pub fn subtree_slide(
     pairs: &mut [u16],
     parents: &mut [u16],
@@ -292,15 +341,18 @@ pub fn subtree_slide(
 ) -> Answered
     ensures { λ r. ⌜ called (r .answer) (r .random) (now (pairs .exit)) (now (parents .exit)) (now (heights .exit)) ≡ moveCall (subtreeSlide node step) (treeOf (now (pairs .entry)) (now (parents .entry)) (now (heights .entry)) root) random allowance ⌝ }
 {
-    let limits = is_slidable(pairs, root, node, step);
-    match calls::check(pairs, parents, heights, root, limits, allowance) {
+    match quick::validate(pairs, parents, heights, root) {
         Verdict::Fine => {
-            let s = Supply {
+            return subtree_slide_unvalidated(
+                pairs,
+                parents,
+                heights,
+                root,
+                node,
+                step,
                 random,
-                left: allowance,
-            };
-            let turn = subtree_slide_turn(pairs, parents, heights, root, node, step, s);
-            return calls::answer(turn, random, allowance);
+                allowance,
+            );
         }
         Verdict::Refused(why) => {
             return calls::refuse(why, random);

@@ -61,7 +61,7 @@ pub fn yule_log_density(
 ) -> Density
     ensures { λ r. ⌜ r ≡ yuleCall (treeOf (now (pairs .entry)) (now (parents .entry)) (now (heights .entry)) root) rate ⌝ }
 {
-    match tree::validate(pairs, parents, heights, root) {
+    match quick::validate(pairs, parents, heights, root) {
         Verdict::Refused(why) => {
             return Density::Refused(why);
         }

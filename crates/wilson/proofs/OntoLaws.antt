@@ -110,10 +110,10 @@ module _ (pairs parents : List ℕ) (heights : List Float) (root i j : ℕ) (s s
       height-out p ep w = rw (height-outside (parent t i) _ _ _ supply d ed f h shown w, ep)
 
       pub height-moved : (new old : Float) → Ranged pairs parents heights root i j new old → (z : Float) → h ≡ Heights.At z
-          → (ps qs : List ℕ) (hs : List Float) (r : ℕ) → treeOf ps qs hs r ≡ regraft n t i j z
+          → (ps qs : List ℕ) (hs : List Float) (r : ℕ) → (Regrafts pairs parents heights root i j → treeOf ps qs hs r ≡ regraft n t i j z)
           → after (record { turned = Turns.Moved r (Lengths new old); supply = d .supply }) ps qs hs ≡ turnOf t s (run (wilsonHeight t i j) supply)
       unfolding turnOf
-      height-moved new old g z w ps qs hs r e = rw (height-inside (parent t i) _ _ _ supply d ed f h shown z w, ← e, g .new-is, g .old-is)
+      height-moved new old g z w ps qs hs r e = rw (height-inside (parent t i) _ _ _ supply d ed f h shown z w, ← e (g .regrafts), g .new-is, g .old-is)
 
   -- ---- both ranges
 
@@ -150,19 +150,16 @@ module _ (pairs parents : List ℕ) (heights : List Float) (root i j : ℕ) (s s
     unfolding turnOf onto run
     onto-declined f = rw (ap (λ (x : Ranges). x .declined) (sym e) ∙ f)
 
-    pub onto-ranged : Regrafts pairs parents heights root i j → Ranged pairs parents heights root i j (r .new) (r .old)
-    onto-ranged g = record { regrafts = g; new-is = ap (λ (x : Ranges). x .new) e; old-is = ap (λ (x : Ranges). x .old) e }
+    ranged : Regrafts pairs parents heights root i j → Ranged pairs parents heights root i j (r .new) (r .old)
+    ranged g = record { regrafts = g; new-is = ap (λ (x : Ranges). x .new) e; old-is = ap (λ (x : Ranges). x .old) e }
 
-    pub onto-height : r .declined ≡ false → (a : After) → a ≡ turnOf t s (run (wilsonHeight t i j) supply) → a ≡ turnOf t s (run (onto t i j) supply)
+    pub onto-height : r .declined ≡ false → Regrafts pairs parents heights root i j → (a : After)
+        → (Ranged pairs parents heights root i j (r .new) (r .old) → a ≡ turnOf t s (run (wilsonHeight t i j) supply)) → a ≡ turnOf t s (run (onto t i j) supply)
     unfolding onto
-    onto-height f a q = rw (q, ap (λ (x : Ranges). x .declined) (sym e) ∙ f)
+    onto-height f g a q = rw (q (ranged g), ap (λ (x : Ranges). x .declined) (sym e) ∙ f)
 
-pub ranged-regrafts : (pairs parents : List ℕ) (heights : List Float) (root i j : ℕ) (new old : Float) → Ranged pairs parents heights root i j new old
-    → Regrafts pairs parents heights root i j
-ranged-regrafts pairs parents heights root i j new old g = g .regrafts
-
-pub ruleset heightLaws = (height-none, height-out, height-moved, ranged-regrafts)
+pub ruleset heightLaws = (height-none, height-out, height-moved)
 
 pub ruleset rangesLaws = (ranges-barred, ranges-no-new, ranges-old)
 
-pub ruleset ontoLaws = (onto-declined, onto-ranged, onto-height)
+pub ruleset ontoLaws = (onto-declined, onto-height)

@@ -46,17 +46,18 @@ module _ (pairs parents : List ℕ) (heights : List Float) (root : ℕ) (s : Sup
       found : pick (host (nodesOf pairs) t (a .value)) (a .supply) ≡ got (b .value) (b .supply)
       found = number-got (a .supply) b _ (eb ∙ ap (λ (d : Number). drawnNumber (a .supply) (pick d (a .supply))) bare-host) k
 
-      pub turn-onto : (r : After) → r ≡ turnOf t s (run (onto t (a .value) (b .value)) (b .supply)) → r ≡ turnOf t s (run (wilsonBalding t) s)
-      unfolding wilsonBalding host hosting onto
-      turn-onto r e =
-          e ∙ ap (turnOf t s) (sym (draw-got (nonRoot (nodesOf pairs) root) _ s _ _ (number-got s a _ ea h) ∙ draw-got (host (nodesOf pairs) t (a .value)) _ (a .supply) _ _ found))
-
       -- both are nodes
-      pub turn-regrafts : Valid (nodesOf pairs) (treeOf pairs parents heights root) → Regrafts pairs parents heights root (a .value) (b .value)
+      regrafts : Valid (nodesOf pairs) (treeOf pairs parents heights root) → Regrafts pairs parents heights root (a .value) (b .value)
       unfolding host
-      turn-regrafts v =
+      regrafts v =
           let i = non-root-yields (nodesOf pairs) root s (a .value) (a .supply) (number-got s a _ ea h) in
           let j = until-yields (λ m. m < nodesOf pairs) (hosting t (a .value)) (below (nodesOf pairs)) (below-yields (nodesOf pairs)) (a .supply) (b .value) (b .supply) found in
           record { valid = v; node = i .node; under = i .under; to = j .1 }
 
-pub ruleset turnLaws = (turn-spent, turn-onto, turn-regrafts)
+      pub turn-onto : Valid (nodesOf pairs) (treeOf pairs parents heights root) → (r : After)
+          → (Regrafts pairs parents heights root (a .value) (b .value) → r ≡ turnOf t s (run (onto t (a .value) (b .value)) (b .supply))) → r ≡ turnOf t s (run (wilsonBalding t) s)
+      unfolding wilsonBalding host hosting onto
+      turn-onto v r e =
+          e (regrafts v) ∙ ap (turnOf t s) (sym (draw-got (nonRoot (nodesOf pairs) root) _ s _ _ (number-got s a _ ea h) ∙ draw-got (host (nodesOf pairs) t (a .value)) _ (a .supply) _ _ found))
+
+pub ruleset turnLaws = (turn-spent, turn-onto)

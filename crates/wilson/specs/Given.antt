@@ -1,4 +1,4 @@
--- The parts into which the code of WilsonBalding takes its rule, and what they ask. Definitions only. Assumes nothing.
+-- The parts into which the code of WilsonBalding takes its rule, and what they need. Definitions only. Assumes nothing.
 use mathlib.Core.Path.{_≡_}
 use mathlib.Core.Bool.{Bool, _||_}
 use mathlib.Core.List.{List}
@@ -31,7 +31,7 @@ rangesOf t i j = record { declined = wilsonDeclines t i j; new = newRange t i j;
 abbrev pub branchHeight : Tree → ℕ → ℕ → Float → Height
 branchHeight t i j u = heightOf (maxOf (height t i) (height t j)) (height t (parent t j)) u
 
--- ---- what is asked
+-- ---- what is needed
 
 -- the tree and the nodes are those that a regraft takes, and new and old are the ranges
 pub record Ranged (pairs parents : List ℕ) (heights : List Float) (root i j : ℕ) (new old : Float) : Type 0 where

@@ -1,8 +1,10 @@
-// WilsonBalding of rove's mcmc/moves.rs over lent slices: its turn on a valid tree, and its call, which checks first. Assumes nothing.
+// WilsonBalding of rove's mcmc/moves.rs over lent slices: the call of that name, which refuses what is not in order, and an unvalidated one, which
+// leaves the tree unchecked; both take whatever is lent. What their parts promise is promised of a valid tree. Assumes nothing.
 ghost use mathlib.Core.Path.{_≡_};
 ghost use mathlib.Core.List.{[]};
 ghost use Rattle.random.specs.Draw.{pick, run, drawnNumber};
 ghost use Rattle.tree.specs.Tree.{nodesOf};
+ghost use Rattle.tree.specs.New.{Accepted};
 ghost use Rattle.tree.specs.Valid.{Valid};
 ghost use Rattle.tree.specs.Given.{treeOf, datesIn};
 ghost use Rattle.rules.specs.Rules.{range, newRange, oldRange};
@@ -170,8 +172,7 @@ fn wilson_height(
     s: Supply,
     supply: Supply,
 ) -> Turn
-    requires { ⌜ Ranged (now pairs) (now parents) (now heights) root i j new old ⌝ }
-    ensures { λ r. ⌜ after r (now (pairs .exit)) (now (parents .exit)) (now (heights .exit)) ≡ turnOf (treeOf (now (pairs .entry)) (now (parents .entry)) (now (heights .entry)) root) s (run (wilsonHeight (treeOf (now (pairs .entry)) (now (parents .entry)) (now (heights .entry)) root) i j) supply) ⌝ }
+    ensures { λ r. ⌜ (Ranged (now (pairs .entry)) (now (parents .entry)) (now (heights .entry)) root i j new old → after r (now (pairs .exit)) (now (parents .exit)) (now (heights .exit)) ≡ turnOf (treeOf (now (pairs .entry)) (now (parents .entry)) (now (heights .entry)) root) s (run (wilsonHeight (treeOf (now (pairs .entry)) (now (parents .entry)) (now (heights .entry)) root) i j) supply)) ⌝ }
 {
     let d = supply.uniform();
     let next = d.supply;
@@ -210,8 +211,7 @@ fn wilson_onto(
     s: Supply,
     supply: Supply,
 ) -> Turn
-    requires { ⌜ Regrafts (now pairs) (now parents) (now heights) root i j ⌝ }
-    ensures { λ r. ⌜ after r (now (pairs .exit)) (now (parents .exit)) (now (heights .exit)) ≡ turnOf (treeOf (now (pairs .entry)) (now (parents .entry)) (now (heights .entry)) root) s (run (onto (treeOf (now (pairs .entry)) (now (parents .entry)) (now (heights .entry)) root) i j) supply) ⌝ }
+    ensures { λ r. ⌜ (Regrafts (now (pairs .entry)) (now (parents .entry)) (now (heights .entry)) root i j → after r (now (pairs .exit)) (now (parents .exit)) (now (heights .exit)) ≡ turnOf (treeOf (now (pairs .entry)) (now (parents .entry)) (now (heights .entry)) root) s (run (onto (treeOf (now (pairs .entry)) (now (parents .entry)) (now (heights .entry)) root) i j) supply)) ⌝ }
 {
     let ranges = measure(pairs, parents, heights, root, i, j);
     if ranges.declined {
@@ -242,8 +242,7 @@ fn wilson_balding_turn(
     root: usize,
     s: Supply,
 ) -> Turn
-    requires { ⌜ Valid (nodesOf (now pairs)) (treeOf (now pairs) (now parents) (now heights) root) ⌝ }
-    ensures { λ r. ⌜ after r (now (pairs .exit)) (now (parents .exit)) (now (heights .exit)) ≡ turnOf (treeOf (now (pairs .entry)) (now (parents .entry)) (now (heights .entry)) root) s (run (Programs.wilsonBalding (treeOf (now (pairs .entry)) (now (parents .entry)) (now (heights .entry)) root)) s) ⌝ }
+    ensures { λ r. ⌜ (Valid (nodesOf (now (pairs .entry))) (treeOf (now (pairs .entry)) (now (parents .entry)) (now (heights .entry)) root) → after r (now (pairs .exit)) (now (parents .exit)) (now (heights .exit)) ≡ turnOf (treeOf (now (pairs .entry)) (now (parents .entry)) (now (heights .entry)) root) s (run (Programs.wilsonBalding (treeOf (now (pairs .entry)) (now (parents .entry)) (now (heights .entry)) root)) s)) ⌝ }
 {
     let n = pairs.len() / 2;
     let a = calls::non_root(s, n, root);
@@ -267,8 +266,8 @@ fn wilson_balding_turn(
     }
 }
 
-// The call: the tree and the allowance are checked, then the turn is made.
-pub fn wilson_balding(
+// The call, the tree being left unvalidated: the allowance is checked, then the turn is made.
+pub fn wilson_balding_unvalidated(
     pairs: &mut [u16],
     parents: &mut [u16],
     heights: &mut [f64],
@@ -276,9 +275,9 @@ pub fn wilson_balding(
     random: Random,
     allowance: u32,
 ) -> Answered
-    ensures { λ r. ⌜ called (r .answer) (r .random) (now (pairs .exit)) (now (parents .exit)) (now (heights .exit)) ≡ moveCall wilsonBalding (treeOf (now (pairs .entry)) (now (parents .entry)) (now (heights .entry)) root) random allowance ⌝ }
+    ensures { λ r. ⌜ (Accepted (treeOf (now (pairs .entry)) (now (parents .entry)) (now (heights .entry)) root) → called (r .answer) (r .random) (now (pairs .exit)) (now (parents .exit)) (now (heights .exit)) ≡ moveCall wilsonBalding (treeOf (now (pairs .entry)) (now (parents .entry)) (now (heights .entry)) root) random allowance) ⌝ }
 {
-    match calls::check(pairs, parents, heights, root, true, allowance) {
+    match calls::check_limits(true, allowance) {
         Verdict::Refused(why) => {
             return calls::refuse(why, random);
         }
@@ -289,6 +288,27 @@ pub fn wilson_balding(
             };
             let turn = wilson_balding_turn(pairs, parents, heights, root, s);
             return calls::answer(turn, random, allowance);
+        }
+    }
+}
+
+// The call: the tree is checked first.
+pub fn wilson_balding(
+    pairs: &mut [u16],
+    parents: &mut [u16],
+    heights: &mut [f64],
+    root: usize,
+    random: Random,
+    allowance: u32,
+) -> Answered
+    ensures { λ r. ⌜ called (r .answer) (r .random) (now (pairs .exit)) (now (parents .exit)) (now (heights .exit)) ≡ moveCall wilsonBalding (treeOf (now (pairs .entry)) (now (parents .entry)) (now (heights .entry)) root) random allowance ⌝ }
+{
+    match quick::validate(pairs, parents, heights, root) {
+        Verdict::Refused(why) => {
+            return calls::refuse(why, random);
+        }
+        Verdict::Fine => {
+            return wilson_balding_unvalidated(pairs, parents, heights, root, random, allowance);
         }
     }
 }

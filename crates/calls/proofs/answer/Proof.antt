@@ -4,8 +4,8 @@ use Rattle.calls.proofs.CallLaws.{answerLaws}
 use Rattle.calls.proofs.answer.Statement.{statement}
 use Rattle.calls.proofs.answer.Tie as tie
 
-sub-draws : tie.Need-sub-draws
-sub-draws c = search (answerLaws, needs)
+draws-made-requires : tie.Need-draws-made-requires
+draws-made-requires c κs = search (answerLaws, needs)
 
 enum-known-turned : tie.Need-enum-known-turned
 enum-known-turned c = search (answerLaws, needs)
@@ -50,7 +50,7 @@ pub answer-spec : {M : Type 1} → statement M
 answer-spec =
     tie.close
     (tie.spec
-    sub-draws
+    draws-made-requires
     enum-known-turned
     returns
     enum-told

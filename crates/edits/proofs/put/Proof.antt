@@ -1,11 +1,11 @@
 -- `edits::put` meets its contract. Assumes nothing.
-use Rattle.edits.proofs.PutLaws.{putLaws}
 use borrow.Author.Needs.{needs}
+use Rattle.edits.proofs.PutLaws.{putLaws}
 use Rattle.edits.proofs.put.Statement.{statement}
 use Rattle.edits.proofs.put.Tie as tie
 
-cast-pairs : tie.Need-cast-pairs
-cast-pairs c = search (putLaws, needs)
+lent-requires : tie.Need-lent-requires
+lent-requires c κs = search (putLaws, needs)
 
 mul-pairs : tie.Need-mul-pairs
 mul-pairs c = search (putLaws, needs)
@@ -13,8 +13,8 @@ mul-pairs c = search (putLaws, needs)
 slice-write-pairs : tie.Need-slice-write-pairs
 slice-write-pairs c = search (putLaws, needs)
 
-cast-parents : tie.Need-cast-parents
-cast-parents c = search (putLaws, needs)
+lent-requires-2 : tie.Need-lent-requires-2
+lent-requires-2 c κs = search (putLaws, needs)
 
 mul-parents : tie.Need-mul-parents
 mul-parents c = search (putLaws, needs)
@@ -29,7 +29,7 @@ same-length-2 : tie.Need-same-length-2
 same-length-2 c = search (putLaws, needs)
 
 returns : tie.Need-returns
-returns c = search (putLaws, needs)
+returns c = λ v. search (putLaws, needs)
 
 mul-parents-2 : tie.Need-mul-parents-2
 mul-parents-2 c = search (putLaws, needs)
@@ -41,16 +41,19 @@ same-length-3 : tie.Need-same-length-3
 same-length-3 c = search (putLaws, needs)
 
 returns-2 : tie.Need-returns-2
-returns-2 c = search (putLaws, needs)
+returns-2 c = λ v. search (putLaws, needs)
+
+returns-3 : tie.Need-returns-3
+returns-3 c = λ v. search (putLaws, needs)
 
 pub put-spec : {M : Type 1} → statement M
 put-spec =
     tie.close
     (tie.spec
-    cast-pairs
+    lent-requires
     mul-pairs
     slice-write-pairs
-    cast-parents
+    lent-requires-2
     mul-parents
     slice-write-parents
     same-length
@@ -59,4 +62,5 @@ put-spec =
     mul-parents-2
     slice-write-parents-2
     same-length-3
-    returns-2)
+    returns-2
+    returns-3)

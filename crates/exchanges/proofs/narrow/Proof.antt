@@ -26,7 +26,7 @@ same-length-2 : tie.Need-same-length-2
 same-length-2 c = search (narrowLaws, needs)
 
 returns : tie.Need-returns
-returns c = search (narrowLaws, needs)
+returns c = λ v. search (narrowLaws, needs)
 
 pub narrow-spec : {M : Type 1} → statement M
 narrow-spec =

@@ -4,8 +4,8 @@ use Rattle.calls.specs.EntryLaws.{entryLaws}
 use Rattle.exchanges.proofs.narrow_exchange.Statement.{statement}
 use Rattle.exchanges.proofs.narrow_exchange.Tie as tie
 
-check-requires : tie.Need-check-requires
-check-requires c κs = search (entryLaws, needs)
+validate-requires : tie.Need-validate-requires
+validate-requires c κs = search (entryLaws, needs)
 
 enum-known-why : tie.Need-enum-known-why
 enum-known-why c = search (entryLaws, needs)
@@ -25,11 +25,8 @@ returns c = search (entryLaws, needs)
 enum-told : tie.Need-enum-told
 enum-told c = search (entryLaws, needs)
 
-narrow-exchange-turn-requires : tie.Need-narrow-exchange-turn-requires
-narrow-exchange-turn-requires c κs = search (entryLaws, needs)
-
-answer-requires : tie.Need-answer-requires
-answer-requires c κs = search (entryLaws, needs)
+narrow-exchange-unvalidated-requires : tie.Need-narrow-exchange-unvalidated-requires
+narrow-exchange-unvalidated-requires c κs = search (entryLaws, needs)
 
 same-length-3 : tie.Need-same-length-3
 same-length-3 c = search (entryLaws, needs)
@@ -44,15 +41,14 @@ pub narrow-exchange-spec : {M : Type 1} → statement M
 narrow-exchange-spec =
     tie.close
     (tie.spec
-    check-requires
+    validate-requires
     enum-known-why
     refuse-requires
     same-length
     same-length-2
     returns
     enum-told
-    narrow-exchange-turn-requires
-    answer-requires
+    narrow-exchange-unvalidated-requires
     same-length-3
     same-length-4
     returns-2)

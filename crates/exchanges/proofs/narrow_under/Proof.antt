@@ -11,7 +11,7 @@ same-length : tie.Need-same-length
 same-length c = search (underLaws, needs)
 
 returns : tie.Need-returns
-returns c = search (underLaws, needs)
+returns c = λ v. search (underLaws, needs)
 
 coin-requires : tie.Need-coin-requires
 coin-requires c κs = search (underLaws, needs)
@@ -26,13 +26,13 @@ same-length-3 : tie.Need-same-length-3
 same-length-3 c = search (underLaws, needs)
 
 returns-2 : tie.Need-returns-2
-returns-2 c = search (underLaws, needs)
+returns-2 c = λ v. search (underLaws, needs)
 
 same-length-4 : tie.Need-same-length-4
 same-length-4 c = search (underLaws, needs)
 
 returns-3 : tie.Need-returns-3
-returns-3 c = search (underLaws, needs)
+returns-3 c = λ v. search (underLaws, needs)
 
 pub narrow-under-spec : {M : Type 1} → statement M
 narrow-under-spec =

@@ -17,7 +17,7 @@ same-length : tie.Need-same-length
 same-length c = search (wideLaws, needs)
 
 returns : tie.Need-returns
-returns c = search (wideLaws, needs)
+returns c = λ v. search (wideLaws, needs)
 
 exchange-requires : tie.Need-exchange-requires
 exchange-requires c κs = search (wideLaws, needs)
@@ -29,13 +29,13 @@ same-length-3 : tie.Need-same-length-3
 same-length-3 c = search (wideLaws, needs)
 
 returns-2 : tie.Need-returns-2
-returns-2 c = search (wideLaws, needs)
+returns-2 c = λ v. search (wideLaws, needs)
 
 returns-3 : tie.Need-returns-3
-returns-3 c = search (wideLaws, needs)
+returns-3 c = λ v. search (wideLaws, needs)
 
 returns-4 : tie.Need-returns-4
-returns-4 c = search (wideLaws, needs)
+returns-4 c = λ v. search (wideLaws, needs)
 
 pub wide-exchange-turn-spec : {M : Type 1} → statement M
 wide-exchange-turn-spec =

@@ -4,8 +4,8 @@ use Rattle.calls.specs.EntryLaws.{entryLaws}
 use Rattle.heights.proofs.node_height.Statement.{statement}
 use Rattle.heights.proofs.node_height.Tie as tie
 
-check-requires : tie.Need-check-requires
-check-requires c κs = search (entryLaws, needs)
+validate-requires : tie.Need-validate-requires
+validate-requires c κs = search (entryLaws, needs)
 
 enum-known-why : tie.Need-enum-known-why
 enum-known-why c = search (entryLaws, needs)
@@ -22,11 +22,8 @@ returns c = search (entryLaws, needs)
 enum-told : tie.Need-enum-told
 enum-told c = search (entryLaws, needs)
 
-node-height-turn-requires : tie.Need-node-height-turn-requires
-node-height-turn-requires c κs = search (entryLaws, needs)
-
-answer-requires : tie.Need-answer-requires
-answer-requires c κs = search (entryLaws, needs)
+node-height-unvalidated-requires : tie.Need-node-height-unvalidated-requires
+node-height-unvalidated-requires c κs = search (entryLaws, needs)
 
 same-length-2 : tie.Need-same-length-2
 same-length-2 c = search (entryLaws, needs)
@@ -38,13 +35,12 @@ pub node-height-spec : {M : Type 1} → statement M
 node-height-spec =
     tie.close
     (tie.spec
-    check-requires
+    validate-requires
     enum-known-why
     refuse-requires
     same-length
     returns
     enum-told
-    node-height-turn-requires
-    answer-requires
+    node-height-unvalidated-requires
     same-length-2
     returns-2)

@@ -26,7 +26,7 @@ same-length : tie.Need-same-length
 same-length c = search (treeScaleLaws, needs)
 
 returns : tie.Need-returns
-returns c = search (treeScaleLaws, needs)
+returns c = λ v. search (treeScaleLaws, needs)
 
 lowest-overflow-requires : tie.Need-lowest-overflow-requires
 lowest-overflow-requires c κs = search (treeScaleLaws, needs)
@@ -35,10 +35,10 @@ same-length-2 : tie.Need-same-length-2
 same-length-2 c = search (treeScaleLaws, needs)
 
 returns-2 : tie.Need-returns-2
-returns-2 c = search (treeScaleLaws, needs)
+returns-2 c = λ v. search (treeScaleLaws, needs)
 
 returns-3 : tie.Need-returns-3
-returns-3 c = search (treeScaleLaws, needs)
+returns-3 c = λ v. search (treeScaleLaws, needs)
 
 pub tree-scale-turn-spec : {M : Type 1} → statement M
 tree-scale-turn-spec =

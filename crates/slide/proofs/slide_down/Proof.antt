@@ -1,71 +1,56 @@
 -- `slide::slide_down` meets its contract. Assumes nothing.
 use borrow.Author.Needs.{needs}
-use Rattle.slide.proofs.SlideLaws.{downLaws, down-height, down-lowers, down-stays}
+use Rattle.slide.proofs.SlideLaws.{down-above, down-past, down-stays}
 use Rattle.slide.proofs.slide_down.Statement.{statement}
 use Rattle.slide.proofs.slide_down.Tie as tie
 
 height-requires : tie.Need-height-requires
-height-requires c κs = search (downLaws, needs)
+height-requires c κs = search needs
 
 same-length : tie.Need-same-length
-same-length c = search (downLaws, needs)
+same-length c = search needs
 
 returns : tie.Need-returns
-returns c = search (downLaws, needs)
+returns c = λ v. search (down-above, needs)
 
 parent-requires : tie.Need-parent-requires
-parent-requires c κs = search (downLaws, needs)
+parent-requires c κs = search needs
 
 other-requires : tie.Need-other-requires
-other-requires c κs = search (downLaws, needs)
+other-requires c κs = search needs
 
 height-requires-2 : tie.Need-height-requires-2
-height-requires-2 c κs = search (downLaws, needs)
+height-requires-2 c κs = search needs
 
 slide-under-requires : tie.Need-slide-under-requires
-slide-under-requires c κs =
-    let past = c .before .before .before in
-    let level = past .before in
-    let other = level .before .before in
-    let parent = other .before .before in
-    let low = parent .before .before in
-    let height = low .before in
-    let start = height .before .before .before .before .before in
-    down-lowers _ _ _ _ _ _ (start .pre) _ (height .height .ensures) (low .if1 .left) _ (parent .parent .ensures) _ (other .other .ensures) _
-    (level .height2 .ensures) (past .if2 .taken)
+slide-under-requires c κs = search needs
 
 same-length-2 : tie.Need-same-length-2
-same-length-2 c = search (downLaws, needs)
+same-length-2 c = search needs
 
 same-length-3 : tie.Need-same-length-3
-same-length-3 c = search (downLaws, needs)
+same-length-3 c = search needs
 
 same-length-4 : tie.Need-same-length-4
-same-length-4 c = search (downLaws, needs)
+same-length-4 c = search needs
 
 returns-2 : tie.Need-returns-2
-returns-2 c = search (downLaws, needs)
+returns-2 c = λ v. search (down-past, needs)
 
 set-height-requires : tie.Need-set-height-requires
-set-height-requires c κs =
-    let other = c .before .before .before .before in
-    let parent = other .before .before in
-    let low = parent .before .before in
-    let height = low .before in
-    let start = height .before .before .before .before .before in
-    down-height _ _ _ _ _ _ (start .pre) _ (height .height .ensures) (low .if1 .left) _ (parent .parent .ensures)
+set-height-requires c κs = search needs
 
 same-length-5 : tie.Need-same-length-5
-same-length-5 c = search (downLaws, needs)
+same-length-5 c = search needs
 
 same-length-6 : tie.Need-same-length-6
-same-length-6 c = search (downLaws, needs)
+same-length-6 c = search needs
 
 same-length-7 : tie.Need-same-length-7
-same-length-7 c = search (downLaws, needs)
+same-length-7 c = search needs
 
 returns-3 : tie.Need-returns-3
-returns-3 c =
+returns-3 c = λ v.
     let set = c .before .before in
     let short = set .before .before in
     let level = short .before in
@@ -74,7 +59,7 @@ returns-3 c =
     let low = parent .before .before in
     let height = low .before in
     let start = height .before .before .before .before .before in
-    down-stays _ _ _ _ _ _ (start .pre) _ (height .height .ensures) (low .if1 .left) _ (parent .parent .ensures) _ (other .other .ensures) _
+    down-stays _ _ _ _ _ _ v _ (height .height .ensures) (low .if1 .left) _ (parent .parent .ensures) _ (other .other .ensures) _
     (level .height2 .ensures) (short .if2 .left) _ (set .set-height .ensures) (start .args .s)
 
 pub slide-down-spec : {M : Type 1} → statement M

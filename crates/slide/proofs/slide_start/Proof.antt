@@ -1,50 +1,38 @@
 -- `slide::slide_start` meets its contract. Assumes nothing.
 use borrow.Author.Needs.{needs}
-use Rattle.slide.proofs.StartLaws.{startLaws}
+use Rattle.slide.proofs.StartLaws.{startCallLaws}
 use Rattle.slide.proofs.slide_start.Statement.{statement}
 use Rattle.slide.proofs.slide_start.Tie as tie
 
-check-requires : tie.Need-check-requires
-check-requires c κs = search (startLaws, needs)
+validate-requires : tie.Need-validate-requires
+validate-requires c κs = search needs
 
 enum-told : tie.Need-enum-told
-enum-told c = search (startLaws, needs)
+enum-told c = search needs
 
-draw-start-requires : tie.Need-draw-start-requires
-draw-start-requires c κs = search (startLaws, needs)
-
-sub-t14 : tie.Need-sub-t14
-sub-t14 c = search (startLaws, needs)
+slide-start-unvalidated-requires : tie.Need-slide-start-unvalidated-requires
+slide-start-unvalidated-requires c κs = search needs
 
 returns : tie.Need-returns
-returns c = search (startLaws, needs)
-
-turn-back-requires : tie.Need-turn-back-requires
-turn-back-requires c κs = search (startLaws, needs)
-
-returns-2 : tie.Need-returns-2
-returns-2 c = search (startLaws, needs)
+returns c = search (startCallLaws, needs)
 
 enum-known-why : tie.Need-enum-known-why
-enum-known-why c = search (startLaws, needs)
+enum-known-why c = search needs
 
-turn-back-requires-2 : tie.Need-turn-back-requires-2
-turn-back-requires-2 c κs = search (startLaws, needs)
+turn-back-requires : tie.Need-turn-back-requires
+turn-back-requires c κs = search needs
 
-returns-3 : tie.Need-returns-3
-returns-3 c = search (startLaws, needs)
+returns-2 : tie.Need-returns-2
+returns-2 c = search (startCallLaws, needs)
 
 pub slide-start-spec : {M : Type 1} → statement M
 slide-start-spec =
     tie.close
     (tie.spec
-    check-requires
+    validate-requires
     enum-told
-    draw-start-requires
-    sub-t14
+    slide-start-unvalidated-requires
     returns
-    turn-back-requires
-    returns-2
     enum-known-why
-    turn-back-requires-2
-    returns-3)
+    turn-back-requires
+    returns-2)

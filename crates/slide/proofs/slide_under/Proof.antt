@@ -1,6 +1,6 @@
 -- `slide::slide_under` meets its contract. Assumes nothing.
 use borrow.Author.Needs.{needs}
-use Rattle.slide.proofs.SlideLaws.{under-none, under-spent, under-regrafts, under-goes}
+use Rattle.slide.proofs.SlideLaws.{under-none, under-spent, under-goes}
 use Rattle.slide.proofs.slide_under.Statement.{statement}
 use Rattle.slide.proofs.slide_under.Tie as tie
 
@@ -23,12 +23,11 @@ same-length-3 : tie.Need-same-length-3
 same-length-3 c = search needs
 
 returns : tie.Need-returns
-returns c =
+returns c = λ v.
     let count = c .before in
     let other = count .before .before .before in
     let parent = other .before .before in
-    let start = parent .before .before .before .before .before in
-    search (under-none, start .pre, parent .parent .ensures, other .other .ensures, count .count .ensures, c .if1 .taken)
+    under-none _ _ _ _ _ _ v _ (parent .parent .ensures) _ (other .other .ensures) _ (count .count .ensures) _ (c .if1 .taken)
 
 below-requires : tie.Need-below-requires
 below-requires c κs = search needs
@@ -37,26 +36,7 @@ branch-requires : tie.Need-branch-requires
 branch-requires c κs = search needs
 
 regraft-requires : tie.Need-regraft-requires
-regraft-requires c κs =
-    let branch = c .before .before .before in
-    let taken = branch .before .before .before .before in
-    let below = taken .before in
-    let some = below .before in
-    let count = some .before in
-    let other = count .before .before .before in
-    let parent = other .before .before in
-    let start = parent .before .before .before .before .before in
-    search (
-      under-regrafts,
-      start .pre,
-      parent .parent .ensures,
-      other .other .ensures,
-      count .count .ensures,
-      some .if1 .left,
-      below .below .ensures,
-      taken .if2 .taken,
-      branch .branch .ensures,
-    )
+regraft-requires c κs = search needs
 
 same-length-4 : tie.Need-same-length-4
 same-length-4 c = search needs
@@ -68,28 +48,7 @@ same-length-6 : tie.Need-same-length-6
 same-length-6 c = search needs
 
 returns-2 : tie.Need-returns-2
-returns-2 c =
-    let regraft = c .before .before .before .before .before .before in
-    let branch = regraft .before .before .before .before in
-    let taken = branch .before .before .before .before in
-    let below = taken .before in
-    let some = below .before in
-    let count = some .before in
-    let other = count .before .before .before in
-    let parent = other .before .before in
-    let start = parent .before .before .before .before .before in
-    search (
-      under-goes,
-      start .pre,
-      parent .parent .ensures,
-      other .other .ensures,
-      count .count .ensures,
-      some .if1 .left,
-      below .below .ensures,
-      taken .if2 .taken,
-      branch .branch .ensures,
-      regraft .regraft .ensures,
-    )
+returns-2 c = λ v. search (under-goes, needs)
 
 same-length-7 : tie.Need-same-length-7
 same-length-7 c = search needs
@@ -101,14 +60,13 @@ same-length-9 : tie.Need-same-length-9
 same-length-9 c = search needs
 
 returns-3 : tie.Need-returns-3
-returns-3 c =
+returns-3 c = λ v.
     let below = c .before in
     let some = below .before in
     let count = some .before in
     let other = count .before .before .before in
     let parent = other .before .before in
-    let start = parent .before .before .before .before .before in
-    under-spent _ _ _ _ _ _ (start .pre) _ (parent .parent .ensures) _ (other .other .ensures) _ (count .count .ensures) _ (some .if1 .left) _
+    under-spent _ _ _ _ _ _ v _ (parent .parent .ensures) _ (other .other .ensures) _ (count .count .ensures) _ (some .if1 .left) _
     (below .below .ensures) (c .if2 .left)
 
 pub slide-under-spec : {M : Type 1} → statement M

@@ -1,53 +1,53 @@
 -- `slide::slide_up` meets its contract. Assumes nothing.
 use borrow.Author.Needs.{needs}
-use Rattle.slide.proofs.SlideLaws.{upLaws, up-stays}
+use Rattle.slide.proofs.SlideLaws.{up-stays, up-goes}
 use Rattle.slide.proofs.slide_up.Statement.{statement}
 use Rattle.slide.proofs.slide_up.Tie as tie
 
 parent-requires : tie.Need-parent-requires
-parent-requires c κs = search (upLaws, needs)
+parent-requires c κs = search needs
 
 height-requires : tie.Need-height-requires
-height-requires c κs = search (upLaws, needs)
+height-requires c κs = search needs
 
 climb-requires : tie.Need-climb-requires
-climb-requires c κs = search (upLaws, needs)
+climb-requires c κs = search needs
 
 set-height-requires : tie.Need-set-height-requires
-set-height-requires c κs = search (upLaws, needs)
+set-height-requires c κs = search needs
 
 same-length : tie.Need-same-length
-same-length c = search (upLaws, needs)
+same-length c = search needs
 
 same-length-2 : tie.Need-same-length-2
-same-length-2 c = search (upLaws, needs)
+same-length-2 c = search needs
 
 returns : tie.Need-returns
-returns c =
+returns c = λ v.
     let set = c .before .before in
     let even = set .before .before in
     let climb = even .before in
     let parent = climb .before .before .before .before .before in
     let start = parent .before .before .before .before .before in
-    up-stays _ _ _ _ _ _ (start .pre) _ (parent .parent .ensures) _ (climb .climb .ensures) (even .if1 .taken) _ (set .set-height .ensures) (start .args .s)
+    up-stays _ _ _ _ _ _ v _ (parent .parent .ensures) _ (climb .climb .ensures) (even .if1 .taken) _ (set .set-height .ensures) (start .args .s)
 
 regraft-requires : tie.Need-regraft-requires
-regraft-requires c κs = search (upLaws, needs)
+regraft-requires c κs = search needs
 
 count-requires : tie.Need-count-requires
-count-requires c κs = search (upLaws, needs)
+count-requires c κs = search needs
 
 same-length-3 : tie.Need-same-length-3
-same-length-3 c = search (upLaws, needs)
+same-length-3 c = search needs
 
 same-length-4 : tie.Need-same-length-4
-same-length-4 c = search (upLaws, needs)
+same-length-4 c = search needs
 
 same-length-5 : tie.Need-same-length-5
-same-length-5 c = search (upLaws, needs)
+same-length-5 c = search needs
 
 returns-2 : tie.Need-returns-2
-returns-2 c = search (upLaws, needs)
+returns-2 c = λ v. search (up-goes, needs)
 
 pub slide-up-spec : {M : Type 1} → statement M
 slide-up-spec =

@@ -1,0 +1,3 @@
+-- What the proofs of lent share.
+mod BodyLaws
+mod DrawLaws

@@ -1,0 +1,3 @@
+-- The definitions that the contracts of lent cite, and the laws of these definitions.
+pub mod Lent
+pub mod LentLaws

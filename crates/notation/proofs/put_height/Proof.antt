@@ -1,0 +1,38 @@
+-- `notation::put_height` meets its contract. Assumes nothing.
+use Rattle.notation.proofs.PutLaws.{valueLaws}
+use borrow.Author.Needs.{needs}
+use Rattle.notation.proofs.put_height.Statement.{statement}
+use Rattle.notation.proofs.put_height.Tie as tie
+
+slice-aggregate-put-text : tie.Need-slice-aggregate-put-text
+slice-aggregate-put-text c = search (valueLaws, needs)
+
+put-text-requires : tie.Need-put-text-requires
+put-text-requires c κs = search (valueLaws, needs)
+
+to-bits-requires : tie.Need-to-bits-requires
+to-bits-requires c κs = search (valueLaws, needs)
+
+put-word-requires : tie.Need-put-word-requires
+put-word-requires c κs = search (valueLaws, needs)
+
+put-byte-requires : tie.Need-put-byte-requires
+put-byte-requires c κs = search (valueLaws, needs)
+
+same-length : tie.Need-same-length
+same-length c = search (valueLaws, needs)
+
+returns : tie.Need-returns
+returns c = search (valueLaws, needs)
+
+pub put-height-spec : {M : Type 1} → statement M
+put-height-spec =
+    tie.close
+    (tie.spec
+    slice-aggregate-put-text
+    put-text-requires
+    to-bits-requires
+    put-word-requires
+    put-byte-requires
+    same-length
+    returns)

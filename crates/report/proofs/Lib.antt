@@ -1,0 +1,3 @@
+-- The laws that the proofs of report share.
+mod PutLaws
+mod CountLaws

@@ -1,0 +1,46 @@
+-- `rove::rove_node_height` meets its contract. Assumes nothing.
+use borrow.Author.Needs.{needs}
+use Rattle.rove.proofs.ExportLaws.{moveLaws}
+use Rattle.rove.proofs.rove_node_height.Statement.{statement}
+use Rattle.rove.proofs.rove_node_height.Tie as tie
+
+is-record-requires : tie.Need-is-record-requires
+is-record-requires c κs = search needs
+
+read-requires : tie.Need-read-requires
+read-requires c κs = search needs
+
+node-height-requires : tie.Need-node-height-requires
+node-height-requires c κs = search needs
+
+put-answer-requires : tie.Need-put-answer-requires
+put-answer-requires c κs = search needs
+
+same-length : tie.Need-same-length
+same-length c = search needs
+
+same-length-2 : tie.Need-same-length-2
+same-length-2 c = search needs
+
+returns : tie.Need-returns
+returns c = search (moveLaws, needs)
+
+same-length-3 : tie.Need-same-length-3
+same-length-3 c = search needs
+
+returns-2 : tie.Need-returns-2
+returns-2 c = search (moveLaws, needs)
+
+pub rove-node-height-spec : {M : Type 1} → statement M
+rove-node-height-spec =
+    tie.close
+    (tie.spec
+    is-record-requires
+    read-requires
+    node-height-requires
+    put-answer-requires
+    same-length
+    same-length-2
+    returns
+    same-length-3
+    returns-2)

@@ -1,0 +1,50 @@
+-- `rove::rove_root_scale` meets its contract. Assumes nothing.
+use borrow.Author.Needs.{needs}
+use Rattle.rove.proofs.ExportLaws.{moveLaws}
+use Rattle.rove.proofs.rove_root_scale.Statement.{statement}
+use Rattle.rove.proofs.rove_root_scale.Tie as tie
+
+is-record-requires : tie.Need-is-record-requires
+is-record-requires c κs = search needs
+
+read-requires : tie.Need-read-requires
+read-requires c κs = search needs
+
+tuning-requires : tie.Need-tuning-requires
+tuning-requires c κs = search needs
+
+root-scale-requires : tie.Need-root-scale-requires
+root-scale-requires c κs = search needs
+
+put-answer-requires : tie.Need-put-answer-requires
+put-answer-requires c κs = search needs
+
+same-length : tie.Need-same-length
+same-length c = search needs
+
+same-length-2 : tie.Need-same-length-2
+same-length-2 c = search needs
+
+returns : tie.Need-returns
+returns c = search (moveLaws, needs)
+
+same-length-3 : tie.Need-same-length-3
+same-length-3 c = search needs
+
+returns-2 : tie.Need-returns-2
+returns-2 c = search (moveLaws, needs)
+
+pub rove-root-scale-spec : {M : Type 1} → statement M
+rove-root-scale-spec =
+    tie.close
+    (tie.spec
+    is-record-requires
+    read-requires
+    tuning-requires
+    root-scale-requires
+    put-answer-requires
+    same-length
+    same-length-2
+    returns
+    same-length-3
+    returns-2)

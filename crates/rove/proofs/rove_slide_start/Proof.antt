@@ -1,0 +1,42 @@
+-- `rove::rove_slide_start` meets its contract. Assumes nothing.
+use borrow.Author.Needs.{needs}
+use Rattle.rove.proofs.ExportLaws.{moveLaws}
+use Rattle.rove.proofs.rove_slide_start.Statement.{statement}
+use Rattle.rove.proofs.rove_slide_start.Tie as tie
+
+is-record-requires : tie.Need-is-record-requires
+is-record-requires c κs = search needs
+
+read-requires : tie.Need-read-requires
+read-requires c κs = search needs
+
+slide-start-requires : tie.Need-slide-start-requires
+slide-start-requires c κs = search needs
+
+put-started-requires : tie.Need-put-started-requires
+put-started-requires c κs = search needs
+
+same-length : tie.Need-same-length
+same-length c = search needs
+
+returns : tie.Need-returns
+returns c = search (moveLaws, needs)
+
+same-length-2 : tie.Need-same-length-2
+same-length-2 c = search needs
+
+returns-2 : tie.Need-returns-2
+returns-2 c = search (moveLaws, needs)
+
+pub rove-slide-start-spec : {M : Type 1} → statement M
+rove-slide-start-spec =
+    tie.close
+    (tie.spec
+    is-record-requires
+    read-requires
+    slide-start-requires
+    put-started-requires
+    same-length
+    returns
+    same-length-2
+    returns-2)

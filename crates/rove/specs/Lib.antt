@@ -1,0 +1,2 @@
+-- The definitions that rove's contracts cite.
+pub mod Exports

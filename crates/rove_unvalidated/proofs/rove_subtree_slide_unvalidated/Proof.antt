@@ -1,0 +1,62 @@
+-- `rove_unvalidated::rove_subtree_slide_unvalidated` meets its contract. Assumes nothing.
+use borrow.Author.Needs.{needs}
+use Rattle.rove_unvalidated.proofs.UnvalidatedLaws.{moveLaws}
+use Rattle.rove_unvalidated.proofs.rove_subtree_slide_unvalidated.Statement.{statement}
+use Rattle.rove_unvalidated.proofs.rove_subtree_slide_unvalidated.Tie as tie
+
+is-record-requires : tie.Need-is-record-requires
+is-record-requires c κs = search needs
+
+read-requires : tie.Need-read-requires
+read-requires c κs = search needs
+
+node-requires : tie.Need-node-requires
+node-requires c κs = search needs
+
+tuning-requires : tie.Need-tuning-requires
+tuning-requires c κs = search needs
+
+subtree-slide-unvalidated-requires : tie.Need-subtree-slide-unvalidated-requires
+subtree-slide-unvalidated-requires c κs = search needs
+
+put-answer-requires : tie.Need-put-answer-requires
+put-answer-requires c κs = search needs
+
+same-length : tie.Need-same-length
+same-length c = search needs
+
+same-length-2 : tie.Need-same-length-2
+same-length-2 c = search needs
+
+same-length-3 : tie.Need-same-length-3
+same-length-3 c = search needs
+
+same-length-4 : tie.Need-same-length-4
+same-length-4 c = search needs
+
+returns : tie.Need-returns
+returns c = search (moveLaws, needs)
+
+same-length-5 : tie.Need-same-length-5
+same-length-5 c = search needs
+
+returns-2 : tie.Need-returns-2
+returns-2 c = search (moveLaws, needs)
+
+pub rove-subtree-slide-unvalidated-spec : {M : Type 1} → statement M
+rove-subtree-slide-unvalidated-spec =
+    tie.close
+    (tie.spec
+    is-record-requires
+    read-requires
+    node-requires
+    tuning-requires
+    subtree-slide-unvalidated-requires
+    put-answer-requires
+    same-length
+    same-length-2
+    same-length-3
+    same-length-4
+    returns
+    same-length-5
+    returns-2)

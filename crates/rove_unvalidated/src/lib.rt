@@ -1,0 +1,221 @@
+// The moves for a host whose tree was accepted and has since been changed by moves alone: as those of `rove`, with the same record and answer code, but the tree is not
+// validated again. Parameters and allowance are checked. Where the slices are an accepted tree, each leaves what the checked function leaves. On any other slices
+// it ends, reads and writes nothing outside them, and nothing else is promised. None has a `requires`. include/rove.h declares them for C. Assumes nothing.
+ghost use mathlib.Core.Path.{_≡_};
+ghost use Rattle.moves.specs.Moves.{nodeHeight, subtreeSlide, narrowExchange, wideExchange, wilsonBalding, rootScale, treeScale};
+ghost use Rattle.record.specs.Record.{written, nodeIn, tuningIn};
+ghost use Rattle.tree.specs.New.{Accepted};
+ghost use Rattle.rove.specs.Exports.{left, treeIn, exported, startExported};
+use record::NO_RECORD;
+
+#[no_mangle]
+pub extern "C" fn rove_node_height_unvalidated(
+    pairs: &[u16],
+    parents: &[u16],
+    heights: &mut [f64],
+    words: &mut [u64],
+) -> u64
+    ensures { λ r. ⌜ (Accepted (treeIn (now (pairs .entry)) (now (parents .entry)) (now (heights .entry)) (now (words .entry))) → left (written r (now (words .exit))) (now (pairs .entry)) (now (parents .entry)) (now (heights .exit)) ≡ exported nodeHeight (now (pairs .entry)) (now (parents .entry)) (now (heights .entry)) (now (words .entry))) ⌝ }
+{
+    if record::is_record(words) {
+        let given = record::read(words);
+        let random = given.random;
+        let answered = heights::node_height_unvalidated(
+            pairs,
+            parents,
+            heights,
+            given.root,
+            random,
+            given.allowance,
+        );
+        return record::put_answer(words, answered);
+    }
+    NO_RECORD
+}
+
+// The first call of SubtreeSlide: a node into word 6, and two uniforms.
+#[no_mangle]
+pub extern "C" fn rove_slide_start_unvalidated(
+    pairs: &[u16],
+    parents: &[u16],
+    heights: &[f64],
+    words: &mut [u64],
+) -> u64
+    ensures { λ r. ⌜ (Accepted (treeIn (now (pairs .entry)) (now (parents .entry)) (now (heights .entry)) (now (words .entry))) → written r (now (words .exit)) ≡ startExported (now (pairs .entry)) (now (parents .entry)) (now (heights .entry)) (now (words .entry))) ⌝ }
+{
+    if record::is_record(words) {
+        let given = record::read(words);
+        let random = given.random;
+        let started = slide::slide_start_unvalidated(
+            pairs,
+            parents,
+            heights,
+            given.root,
+            random,
+            given.allowance,
+        );
+        return rove::put_started(words, started);
+    }
+    NO_RECORD
+}
+
+// The second call of SubtreeSlide, with the node in word 6 and the step in word 7.
+#[no_mangle]
+pub extern "C" fn rove_subtree_slide_unvalidated(
+    pairs: &mut [u16],
+    parents: &mut [u16],
+    heights: &mut [f64],
+    words: &mut [u64],
+) -> u64
+    ensures { λ r. ⌜ (Accepted (treeIn (now (pairs .entry)) (now (parents .entry)) (now (heights .entry)) (now (words .entry))) → left (written r (now (words .exit))) (now (pairs .exit)) (now (parents .exit)) (now (heights .exit)) ≡ exported (subtreeSlide (nodeIn (now (words .entry))) (tuningIn (now (words .entry)))) (now (pairs .entry)) (now (parents .entry)) (now (heights .entry)) (now (words .entry))) ⌝ }
+{
+    if record::is_record(words) {
+        let given = record::read(words);
+        let random = given.random;
+        let node = record::node(words);
+        let step = record::tuning(words);
+        let answered = slide::subtree_slide_unvalidated(
+            pairs,
+            parents,
+            heights,
+            given.root,
+            node,
+            step,
+            random,
+            given.allowance,
+        );
+        return record::put_answer(words, answered);
+    }
+    NO_RECORD
+}
+
+#[no_mangle]
+pub extern "C" fn rove_narrow_exchange_unvalidated(
+    pairs: &mut [u16],
+    parents: &mut [u16],
+    heights: &[f64],
+    words: &mut [u64],
+) -> u64
+    ensures { λ r. ⌜ (Accepted (treeIn (now (pairs .entry)) (now (parents .entry)) (now (heights .entry)) (now (words .entry))) → left (written r (now (words .exit))) (now (pairs .exit)) (now (parents .exit)) (now (heights .entry)) ≡ exported narrowExchange (now (pairs .entry)) (now (parents .entry)) (now (heights .entry)) (now (words .entry))) ⌝ }
+{
+    if record::is_record(words) {
+        let given = record::read(words);
+        let random = given.random;
+        let answered = exchanges::narrow_exchange_unvalidated(
+            pairs,
+            parents,
+            heights,
+            given.root,
+            random,
+            given.allowance,
+        );
+        return record::put_answer(words, answered);
+    }
+    NO_RECORD
+}
+
+#[no_mangle]
+pub extern "C" fn rove_wide_exchange_unvalidated(
+    pairs: &mut [u16],
+    parents: &mut [u16],
+    heights: &[f64],
+    words: &mut [u64],
+) -> u64
+    ensures { λ r. ⌜ (Accepted (treeIn (now (pairs .entry)) (now (parents .entry)) (now (heights .entry)) (now (words .entry))) → left (written r (now (words .exit))) (now (pairs .exit)) (now (parents .exit)) (now (heights .entry)) ≡ exported wideExchange (now (pairs .entry)) (now (parents .entry)) (now (heights .entry)) (now (words .entry))) ⌝ }
+{
+    if record::is_record(words) {
+        let given = record::read(words);
+        let random = given.random;
+        let answered = exchanges::wide_exchange_unvalidated(
+            pairs,
+            parents,
+            heights,
+            given.root,
+            random,
+            given.allowance,
+        );
+        return record::put_answer(words, answered);
+    }
+    NO_RECORD
+}
+
+#[no_mangle]
+pub extern "C" fn rove_wilson_balding_unvalidated(
+    pairs: &mut [u16],
+    parents: &mut [u16],
+    heights: &mut [f64],
+    words: &mut [u64],
+) -> u64
+    ensures { λ r. ⌜ (Accepted (treeIn (now (pairs .entry)) (now (parents .entry)) (now (heights .entry)) (now (words .entry))) → left (written r (now (words .exit))) (now (pairs .exit)) (now (parents .exit)) (now (heights .exit)) ≡ exported wilsonBalding (now (pairs .entry)) (now (parents .entry)) (now (heights .entry)) (now (words .entry))) ⌝ }
+{
+    if record::is_record(words) {
+        let given = record::read(words);
+        let random = given.random;
+        let answered = wilson::wilson_balding_unvalidated(
+            pairs,
+            parents,
+            heights,
+            given.root,
+            random,
+            given.allowance,
+        );
+        return record::put_answer(words, answered);
+    }
+    NO_RECORD
+}
+
+// With the tuning in word 7.
+#[no_mangle]
+pub extern "C" fn rove_root_scale_unvalidated(
+    pairs: &[u16],
+    parents: &[u16],
+    heights: &mut [f64],
+    words: &mut [u64],
+) -> u64
+    ensures { λ r. ⌜ (Accepted (treeIn (now (pairs .entry)) (now (parents .entry)) (now (heights .entry)) (now (words .entry))) → left (written r (now (words .exit))) (now (pairs .entry)) (now (parents .entry)) (now (heights .exit)) ≡ exported (rootScale (tuningIn (now (words .entry)))) (now (pairs .entry)) (now (parents .entry)) (now (heights .entry)) (now (words .entry))) ⌝ }
+{
+    if record::is_record(words) {
+        let given = record::read(words);
+        let random = given.random;
+        let tuning = record::tuning(words);
+        let answered = heights::root_scale_unvalidated(
+            pairs,
+            parents,
+            heights,
+            given.root,
+            tuning,
+            random,
+            given.allowance,
+        );
+        return record::put_answer(words, answered);
+    }
+    NO_RECORD
+}
+
+// With the tuning in word 7.
+#[no_mangle]
+pub extern "C" fn rove_tree_scale_unvalidated(
+    pairs: &[u16],
+    parents: &[u16],
+    heights: &mut [f64],
+    words: &mut [u64],
+) -> u64
+    ensures { λ r. ⌜ (Accepted (treeIn (now (pairs .entry)) (now (parents .entry)) (now (heights .entry)) (now (words .entry))) → left (written r (now (words .exit))) (now (pairs .entry)) (now (parents .entry)) (now (heights .exit)) ≡ exported (treeScale (tuningIn (now (words .entry)))) (now (pairs .entry)) (now (parents .entry)) (now (heights .entry)) (now (words .entry))) ⌝ }
+{
+    if record::is_record(words) {
+        let given = record::read(words);
+        let random = given.random;
+        let tuning = record::tuning(words);
+        let answered = heights::tree_scale_unvalidated(
+            pairs,
+            parents,
+            heights,
+            given.root,
+            tuning,
+            random,
+            given.allowance,
+        );
+        return record::put_answer(words, answered);
+    }
+    NO_RECORD
+}

@@ -1,0 +1,72 @@
+/* Tree F of three tips, in memory: rove_new makes its parents, and RootScale with a tuning of 0.5 moves its root from the state 1, 2, 3, 4. What comes
+ * of it is printed and compared with document 01's example. Exits with 1 where anything is wrong. */
+#include <inttypes.h>
+#include <stdio.h>
+
+#include "rove.h"
+
+#define NODES 5
+#define TIP ROVE_NO_NODE, ROVE_NO_NODE
+
+static int wrong = 0;
+
+static void expect(int holds, const char *what)
+{
+    if (!holds) {
+        fprintf(stderr, "wrong: %s\n", what);
+        wrong = 1;
+    }
+}
+
+static void set_state(uint64_t *words)
+{
+    for (int k = 0; k < 4; k++)
+        words[ROVE_GENERATOR + k] = k + 1;
+}
+
+/* Words that are no record, and slices that have no elements. */
+static void check_refusals(void)
+{
+    uint64_t words[ROVE_WORDS] = {0};
+    expect(rove_validate(NULL, 0, NULL, 0, NULL, 0, words, ROVE_WORDS - 1) == ROVE_NO_RECORD && words[ROVE_KIND] == 0, "too few words");
+    expect(rove_validate(NULL, 0, NULL, 0, NULL, 0, NULL, 0) == ROVE_NO_RECORD, "no words");
+    expect(rove_validate(NULL, 0, NULL, 0, NULL, 0, words, ROVE_WORDS) == ROVE_REFUSED, "no tree");
+    expect(words[ROVE_ANSWER] == ROVE_REFUSED && words[ROVE_KIND] == ROVE_REFUSAL_SIZE && words[ROVE_FIRST] == 0, "the refusal of no tree");
+}
+
+static void check_draws(void)
+{
+    uint64_t words[ROVE_WORDS] = {0};
+    set_state(words);
+    expect(rove_next_u64(words, ROVE_WORDS) == ROVE_DONE && words[ROVE_FIRST] == 41943041, "the first draw");
+    expect(rove_next_u64(words, ROVE_WORDS) == ROVE_DONE && words[ROVE_FIRST] == 58720359, "the second draw");
+}
+
+int main(void)
+{
+    const uint16_t pairs[2 * NODES] = {TIP, TIP, TIP, 0, 1, 3, 2};
+    uint16_t parents[NODES] = {0};
+    double heights[NODES] = {0.0, 0.0, 0.0, 1.0, 2.0};
+    uint64_t words[ROVE_WORDS] = {0};
+
+    check_refusals();
+    check_draws();
+
+    expect(rove_new(pairs, 2 * NODES, heights, NODES, parents, NODES, words, ROVE_WORDS) == ROVE_DONE, "rove_new");
+    expect(words[ROVE_ROOT] == 4 && parents[0] == 3 && parents[2] == 4 && parents[4] == ROVE_NO_NODE, "root and parents");
+
+    set_state(words);
+    words[ROVE_ALLOWANCE] = 9;
+    words[ROVE_TUNING] = rove_bits(0.5);
+    uint64_t answer = rove_root_scale(pairs, 2 * NODES, parents, NODES, heights, NODES, words, ROVE_WORDS);
+    printf("answer=%" PRIu64 " draws=%" PRIu64 "\n", answer, words[ROVE_DRAWS]);
+    printf("state=%016" PRIx64 ",%016" PRIx64 ",%016" PRIx64 ",%016" PRIx64 "\n", words[0], words[1], words[2], words[3]);
+    printf("ratio=%" PRIu64 ",%016" PRIx64 ",%" PRId64 "\n", words[ROVE_KIND], words[ROVE_FIRST], (int64_t)words[ROVE_SECOND]);
+    printf("root=%" PRIu64 " height=%016" PRIx64 "\n", words[ROVE_ROOT], rove_bits(heights[words[ROVE_ROOT]]));
+
+    expect(answer == ROVE_DONE && words[ROVE_ANSWER] == ROVE_DONE && words[ROVE_DRAWS] == 1, "the answer");
+    expect(words[0] == 7 && words[1] == 0 && words[2] == 0x40002 && words[3] == 0xc00000000000, "the state");
+    expect(words[ROVE_KIND] == ROVE_POWER && words[ROVE_FIRST] == 0x3fe0000000007800 && (int64_t)words[ROVE_SECOND] == -1, "the ratio");
+    expect(words[ROVE_ROOT] == 4 && rove_bits(heights[4]) == 0x3ff0000000007800 && heights[3] == 1.0, "the root's height");
+    return wrong;
+}

@@ -1,0 +1,83 @@
+//! Runs the port beside the Rust, in one process and by bits, and stops at the first difference, which it prints in full.
+//!
+//!     compare files N | moves N | trees N | parameters N
+//!     compare all [--files N] [--moves N] [--trees N] [--parameters N]
+//!     compare replay FILE
+//!
+//! `--seed S` gives other cases.
+
+mod dating;
+mod files;
+mod moves;
+mod oracle;
+mod parameters;
+mod plain;
+mod port;
+mod ratio;
+mod replay;
+mod tally;
+mod trees;
+mod wrong;
+
+use oracle::Compared;
+use std::process::ExitCode;
+use tally::Tally;
+
+const USAGE: &str = "usage: compare files|moves|trees|parameters N, compare all [--files N] [--moves N] [--trees N] \
+                     [--parameters N], or compare replay FILE; each with [--seed S]";
+
+/// A part: its name, whether the archives have it, and the function that compares so many cases from a seed.
+type Part = (&'static str, bool, fn(u64, u64) -> Compared<Tally>);
+
+const PARTS: [Part; 4] = [
+    ("files", rove::exports::ANSWER, files::compare),
+    ("moves", rove::exports::MOVES, moves::compare),
+    ("trees", rove::exports::MOVES, trees::compare),
+    ("parameters", rove::exports::PARAMETERS, parameters::compare),
+];
+
+fn main() -> ExitCode {
+    let words: Vec<String> = std::env::args().skip(1).collect();
+    match run(&words) {
+        Ok(()) => ExitCode::SUCCESS,
+        Err(fault) => {
+            println!("{fault}");
+            ExitCode::FAILURE
+        }
+    }
+}
+
+fn run(words: &[String]) -> Compared<()> {
+    let what = words.first().ok_or(USAGE)?.as_str();
+    let seed = option(words, "--seed")?.unwrap_or(1);
+    if what == "replay" {
+        println!("{}", replay::write(words.get(1).ok_or(USAGE)?, seed)?);
+        return Ok(());
+    }
+    if what != "all" && !PARTS.iter().any(|part| part.0 == what) {
+        return Err(USAGE.into());
+    }
+    for (part, here, compare) in PARTS {
+        let count = match what {
+            "all" => option(words, &format!("--{part}"))?,
+            _ if what == part => Some(number(words.get(1))?),
+            _ => None,
+        };
+        match count {
+            Some(_) if !here => println!("{part}: the archives do not have this part yet"),
+            Some(count) => println!("{}", compare(count, seed)?),
+            None => {}
+        }
+    }
+    Ok(())
+}
+
+fn number(word: Option<&String>) -> Compared<u64> {
+    word.and_then(|word| word.parse().ok()).ok_or(USAGE.into())
+}
+
+/// The number after an option, where it is given.
+fn option(words: &[String], name: &str) -> Compared<Option<u64>> {
+    let at = words.iter().position(|word| word == name);
+    at.map(|at| number(words.get(at + 1))).transpose()
+}

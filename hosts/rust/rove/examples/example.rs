@@ -1,0 +1,55 @@
+//! Document 01's example: RootScale on the tree 3=(0,1) at 1, 4=(3,2) at 2, once by a state file and once in memory.
+
+use rove::{Answer, Generator, Ratio, Tree};
+use std::fmt::Write;
+
+const FILE: &str = "edition=1
+draws=9
+state=0000000000000001,0000000000000002,0000000000000003,0000000000000004
+move=RootScale
+node=0
+tuning=3fe0000000000000
+tips=3
+pair=0,1
+pair=3,2
+height=0000000000000000
+height=0000000000000000
+height=0000000000000000
+height=3ff0000000000000
+height=4000000000000000
+";
+
+fn main() {
+    let in_memory = moved_in_memory();
+    print!("{in_memory}");
+    if rove::exports::ANSWER {
+        let text = String::from_utf8(rove::answer(FILE.as_bytes())).expect("text");
+        assert_eq!(text, in_memory, "the state file's answer is that of the call");
+        println!("The state file gives the same text.");
+    }
+}
+
+/// The move on a tree in memory, printed as the answer to the file is.
+fn moved_in_memory() -> String {
+    const NONE: u16 = 65_535;
+    let pairs = vec![NONE, NONE, NONE, NONE, NONE, NONE, 0, 1, 3, 2];
+    let mut tree = Tree::new(pairs, vec![0.0, 0.0, 0.0, 1.0, 2.0]).expect("a tree");
+    let mut generator = Generator([1, 2, 3, 4]);
+    let Answer::Moved(moved) = tree.root_scale(0.5, &mut generator, 9) else {
+        panic!("the example moves");
+    };
+    let Ratio::Power(factor, exponent) = moved.ratio else {
+        panic!("a scale's ratio is a power");
+    };
+    let [a, b, c, d] = generator.0;
+    let mut text =
+        format!("answer=moved\ndraws={}\nstate={a:016x},{b:016x},{c:016x},{d:016x}\n", moved.draws);
+    writeln!(text, "ratio=power,{:016x},{exponent}\nroot={}", factor.to_bits(), moved.root).expect("text");
+    for pair in tree.pairs.chunks(2).skip(tree.tips()) {
+        writeln!(text, "pair={},{}", pair[0], pair[1]).expect("text");
+    }
+    for height in &tree.heights {
+        writeln!(text, "height={:016x}", height.to_bits()).expect("text");
+    }
+    text
+}

@@ -1,0 +1,146 @@
+//! The exported functions, each as a safe function over slices. They have no precondition: each ends on any slices, and a
+//! record of fewer than 32 words is answered with 3. What is believed here is that the declarations below are those of the
+//! archives, where a slice is a pointer and a length.
+
+/// An address for an empty slice, which is never read or written through.
+static NOTHING: u64 = 0;
+
+fn address<T>(slice: &[T]) -> *const T {
+    if slice.is_empty() { (&raw const NOTHING).cast() } else { slice.as_ptr() }
+}
+
+fn address_mut<T>(slice: &mut [T]) -> *mut T {
+    if slice.is_empty() { (&raw const NOTHING).cast_mut().cast() } else { slice.as_mut_ptr() }
+}
+
+macro_rules! slice {
+    (read $t:ty) => {
+        &[$t]
+    };
+    (lend $t:ty) => {
+        &mut [$t]
+    };
+}
+
+macro_rules! pointer {
+    (read $t:ty) => { *const $t };
+    (lend $t:ty) => { *mut $t };
+}
+
+macro_rules! place {
+    (read $slice:ident) => {
+        address($slice)
+    };
+    (lend $slice:ident) => {
+        address_mut($slice)
+    };
+}
+
+/// Functions of the part `cfg`: each takes its slices, which it reads or which are lent to it, and last the record's words.
+macro_rules! exports {
+    ($part:ident: $($name:ident($($slice:ident: $way:ident $t:ty),*);)*) => {
+        $(
+            #[cfg($part)]
+            #[inline]
+            pub fn $name($($slice: slice!($way $t),)* words: &mut [u64]) -> u64 {
+                unsafe extern "C" {
+                    fn $name($($slice: pointer!($way $t), _: usize,)* words: *mut u64, _: usize) -> u64;
+                }
+                // SAFETY: each pair is the address and the length of a slice that is borrowed for the call.
+                unsafe { $name($(place!($way $slice), $slice.len(),)* address_mut(words), words.len()) }
+            }
+
+            #[cfg(not($part))]
+            pub fn $name($($slice: slice!($way $t),)* words: &mut [u64]) -> u64 {
+                $(let _ = $slice;)*
+                let _ = words;
+                panic!("{} has not been made yet", stringify!($name));
+            }
+        )*
+    };
+}
+
+exports! { moves:
+    rove_next_u64();
+    rove_below();
+    rove_new(pairs: read u16, heights: read f64, parents: lend u16);
+    rove_validate(pairs: read u16, parents: read u16, heights: read f64);
+    rove_postorder(pairs: read u16, parents: read u16, heights: read f64, order: lend u16);
+    rove_node_height(pairs: read u16, parents: read u16, heights: lend f64);
+    rove_slide_start(pairs: read u16, parents: read u16, heights: read f64);
+    rove_subtree_slide(pairs: lend u16, parents: lend u16, heights: lend f64);
+    rove_narrow_exchange(pairs: lend u16, parents: lend u16, heights: read f64);
+    rove_wide_exchange(pairs: lend u16, parents: lend u16, heights: read f64);
+    rove_wilson_balding(pairs: lend u16, parents: lend u16, heights: lend f64);
+    rove_root_scale(pairs: read u16, parents: read u16, heights: lend f64);
+    rove_tree_scale(pairs: read u16, parents: read u16, heights: lend f64);
+}
+
+exports! { unvalidated:
+    rove_node_height_unvalidated(pairs: read u16, parents: read u16, heights: lend f64);
+    rove_slide_start_unvalidated(pairs: read u16, parents: read u16, heights: read f64);
+    rove_subtree_slide_unvalidated(pairs: lend u16, parents: lend u16, heights: lend f64);
+    rove_narrow_exchange_unvalidated(pairs: lend u16, parents: lend u16, heights: read f64);
+    rove_wide_exchange_unvalidated(pairs: lend u16, parents: lend u16, heights: read f64);
+    rove_wilson_balding_unvalidated(pairs: lend u16, parents: lend u16, heights: lend f64);
+    rove_root_scale_unvalidated(pairs: read u16, parents: read u16, heights: lend f64);
+    rove_tree_scale_unvalidated(pairs: read u16, parents: read u16, heights: lend f64);
+}
+
+exports! { parameters:
+    rove_scale();
+    rove_clock_rate_scale();
+    rove_birth_difference_scale();
+    rove_birth_rate_scale();
+    rove_relative_death_scale();
+    rove_clock_sigma_scale(rates: read f64);
+    rove_branch_rate_scale(rates: lend f64);
+    rove_fbd_scale();
+    rove_initialize(pairs: read u16, parents: read u16, heights: lend f64, minima: read f64, maxima: read f64);
+    rove_propose_age(pairs: read u16, parents: read u16, heights: lend f64, minima: read f64, maxima: read f64);
+    rove_yule_log_density(pairs: read u16, parents: read u16, heights: read f64);
+    rove_clock(rates: read f64);
+    rove_branch_rate(rates: read f64);
+    rove_set_sigma(rates: read f64);
+    rove_set_rate(rates: lend f64);
+    rove_validate_priors();
+    rove_is_monophyletic(pairs: read u16, parents: read u16, heights: read f64, members: read u8);
+    rove_clade_age(pairs: read u16, parents: read u16, heights: read f64, members: read u8);
+}
+
+/// The generator of a seed, into words 0 to 3.
+#[cfg(moves)]
+pub fn rove_seed(seed: u64, words: &mut [u64]) -> u64 {
+    unsafe extern "C" {
+        fn rove_seed(seed: u64, words: *mut u64, _: usize) -> u64;
+    }
+    // SAFETY: address and length of a slice that is borrowed for the call.
+    unsafe { rove_seed(seed, address_mut(words), words.len()) }
+}
+
+#[cfg(not(moves))]
+pub fn rove_seed(_: u64, _: &mut [u64]) -> u64 {
+    panic!("rove_seed has not been made yet");
+}
+
+/// The answer to a state file, into the first bytes of `answer`: how many there are, or 0 with nothing written where they
+/// do not fit.
+#[cfg(answer)]
+pub fn rove_answer(file: &[u8], answer: &mut [u8]) -> usize {
+    unsafe extern "C" {
+        fn rove_answer(file: *const u8, _: usize, answer: *mut u8, _: usize) -> usize;
+    }
+    // SAFETY: addresses and lengths of slices that are borrowed for the call.
+    unsafe { rove_answer(address(file), file.len(), address_mut(answer), answer.len()) }
+}
+
+#[cfg(not(answer))]
+pub fn rove_answer(_: &[u8], _: &mut [u8]) -> usize {
+    panic!("rove_answer has not been made yet");
+}
+
+/// Which parts the archives have.
+pub const MOVES: bool = cfg!(moves);
+pub const UNVALIDATED: bool = cfg!(unvalidated);
+pub const ANSWER: bool = cfg!(answer);
+pub const PARAMETERS: bool = cfg!(parameters);

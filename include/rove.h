@@ -1,0 +1,249 @@
+/* rove's generator, trees and moves, proved: the functions that a C host calls with its tree in memory.
+ *
+ * Slices. A slice is a pointer to its first element, then the number of its elements. With no elements the pointer is not followed and may be NULL.
+ * The slices of one call do not overlap, and nothing else reads or writes them while it runs. A function that takes a pointer to const leaves those
+ * elements as they are.
+ *
+ * Trees. A tree of n nodes has 2n pairs, n parents and n heights. n is odd, from 3 to 4,095; nodes 0 to (n + 1) / 2 - 1 are the tips. The children of
+ * node k are pairs[2k] and pairs[2k + 1]; a tip has ROVE_NO_NODE twice. The root's parent is ROVE_NO_NODE; the root itself stands in the record.
+ * A height is finite, not negative, and no greater than the parent's. rove_new fills the parents and the root from pairs and heights. The calls validate
+ * the tree that they are given, and refuse what rove_new would not accept.
+ *
+ * The record. The last slice of a call, `words`, is its record: at least ROVE_WORDS 64-bit words, by which it is given its numbers and by which it
+ * answers. A float stands in a word by its bits (rove_bits, rove_real); every NaN is one and the same. Every call takes any words and any slices.
+ *
+ * The answer. A call returns its answer code, ROVE_DONE to ROVE_NO_RECORD, and writes it into word ROVE_ANSWER too:
+ *   done      words 0-3 the generator after the draws made, where it made any; ROVE_ROOT after a move or rove_new; ROVE_ANSWER to ROVE_SECOND; the
+ *             slices and parameters that the call changes;
+ *   declined  words 0-3, and ROVE_ANSWER to ROVE_SECOND;
+ *   refused   ROVE_ANSWER to ROVE_SECOND, and nothing else: generator, slices and parameters are as they came;
+ *   no record (fewer than ROVE_WORDS words) nothing at all.
+ * All other words stay as they came.
+ *
+ * The functions from rove_seed to rove_answer are in librove.a, those on parameters in librove_parameters.a, for x86-64 Linux. */
+#ifndef ROVE_H
+#define ROVE_H
+
+#include <stddef.h>
+#include <stdint.h>
+#include <string.h>
+
+#ifdef __cplusplus
+extern "C" {
+#endif
+
+/* ---- the record */
+
+enum {
+    ROVE_WORDS = 32,     /* the fewest words of a record */
+    ROVE_GENERATOR = 0,  /* in and out: four words, the generator's state */
+    ROVE_ROOT = 4,       /* in, and out where it changes: the root */
+    ROVE_ALLOWANCE = 5,  /* in: how many draws the call may make, 1 to 65,535 */
+    ROVE_NODE = 6,       /* in: a node, an index, a field, or an n; out: the node of rove_slide_start */
+    ROVE_TUNING = 7,     /* in: the bits of a scale's tuning, from 1e-8 to 1, or of a slide's step */
+    ROVE_ANSWER = 8,     /* out: the answer code */
+    ROVE_DRAWS = 9,      /* out: the draws made; 0 when refused */
+    ROVE_KIND = 10,      /* out: moved: the ratio's kind; refused: the refusal; else 0 */
+    ROVE_FIRST = 11,     /* out: moved: the ratio's first value; refused: the refusal's detail; else as each function says, or 0 */
+    ROVE_SECOND = 12,    /* out: moved: the ratio's second value; else as each function says, or 0 */
+    ROVE_PARAMETERS = 13 /* words 13 to 31: the parameters of the calls that take any */
+};
+
+/* The mark of no node. */
+enum { ROVE_NO_NODE = 65535 };
+
+/* The answer code. */
+enum {
+    ROVE_DONE = 0,     /* moved, scaled, made, drawn, in order */
+    ROVE_DECLINED = 1, /* the move is not made: the Rust's None; of rove_yule_log_density: minus infinity */
+    ROVE_REFUSED = 2,  /* the call is turned back */
+    ROVE_NO_RECORD = 3 /* fewer than ROVE_WORDS words */
+};
+
+/* The kind of a ratio, and its two values a and b, or f and k. */
+enum {
+    ROVE_EVEN = 0,    /* 1 over 1: 1 and 1 */
+    ROVE_COUNTS = 1,  /* a over b: two numbers */
+    ROVE_LENGTHS = 2, /* a over b: the bits of two floats */
+    ROVE_POWER = 3    /* f to the power k: the bits of a float, and a number in two's complement */
+};
+
+/* The refusals, with their details. They are tested in this order. */
+enum {
+    ROVE_REFUSAL_SIZE = 1,         /* under 3 nodes, an even number, over 4,095, or lengths disagree: the number of nodes */
+    ROVE_REFUSAL_SHAPE = 2,        /* the pairs make no tree: the node */
+    ROVE_REFUSAL_DISCONNECTED = 3, /* they make more than one, or the given parents or root are not the pairs': 0 */
+    ROVE_REFUSAL_HEIGHT = 4,       /* negative, not finite, or above the parent's: the lowest such node */
+    ROVE_REFUSAL_PARAMETER = 5,    /* a parameter, the allowance too, is outside its limits: a tip at fault of an age table, else 0 */
+    ROVE_REFUSAL_ALLOWANCE = 6,    /* more draws are needed than allowed: the allowance */
+    ROVE_REFUSAL_NOT_FINITE = 7,   /* a new height is not finite: the lowest such node */
+    ROVE_REFUSAL_OUTSIDE = 8,      /* a drawn height is outside its interval: the node */
+    ROVE_REFUSAL_LINE = 9          /* of the state file alone: the line */
+};
+
+/* A float as a word, and back. */
+static inline uint64_t rove_bits(double x)
+{
+    uint64_t bits;
+    memcpy(&bits, &x, sizeof bits);
+    return bits;
+}
+
+static inline double rove_real(uint64_t bits)
+{
+    double x;
+    memcpy(&x, &bits, sizeof x);
+    return x;
+}
+
+/* ---- the generator: xoshiro256++, seeded through SplitMix64 */
+
+/* The generator of a seed, into words 0-3; no other word is written. */
+uint64_t rove_seed(uint64_t seed, uint64_t *words, size_t words_len);
+
+/* One draw, into ROVE_FIRST. Asks for no allowance. */
+uint64_t rove_next_u64(uint64_t *words, size_t words_len);
+
+/* A number below ROVE_NODE, which is 1 to 2^32, into ROVE_FIRST. */
+uint64_t rove_below(uint64_t *words, size_t words_len);
+
+/* ---- the tree */
+
+/* Tree::new: fills the parents, and ROVE_ROOT. */
+uint64_t rove_new(const uint16_t *pairs, size_t pairs_len, const double *heights, size_t heights_len, uint16_t *parents, size_t parents_len,
+                  uint64_t *words, size_t words_len);
+
+/* Whether pairs, parents, heights and ROVE_ROOT are a tree. */
+uint64_t rove_validate(const uint16_t *pairs, size_t pairs_len, const uint16_t *parents, size_t parents_len, const double *heights, size_t heights_len,
+                       uint64_t *words, size_t words_len);
+
+/* Every node with both children before their parent, into `order`, which has one place for each node. */
+uint64_t rove_postorder(const uint16_t *pairs, size_t pairs_len, const uint16_t *parents, size_t parents_len, const double *heights, size_t heights_len,
+                        uint16_t *order, size_t order_len, uint64_t *words, size_t words_len);
+
+/* ---- the moves. Each is given ROVE_GENERATOR, ROVE_ROOT and ROVE_ALLOWANCE. */
+
+uint64_t rove_node_height(const uint16_t *pairs, size_t pairs_len, const uint16_t *parents, size_t parents_len, double *heights, size_t heights_len,
+                          uint64_t *words, size_t words_len);
+
+/* SubtreeSlide is two calls. The first draws its node, into ROVE_NODE, and two uniforms, whose bits go into ROVE_FIRST and ROVE_SECOND. The host
+ * forms the step from these and writes it into ROVE_TUNING for the second, which takes node and step. */
+uint64_t rove_slide_start(const uint16_t *pairs, size_t pairs_len, const uint16_t *parents, size_t parents_len, const double *heights,
+                          size_t heights_len, uint64_t *words, size_t words_len);
+uint64_t rove_subtree_slide(uint16_t *pairs, size_t pairs_len, uint16_t *parents, size_t parents_len, double *heights, size_t heights_len,
+                            uint64_t *words, size_t words_len);
+
+uint64_t rove_narrow_exchange(uint16_t *pairs, size_t pairs_len, uint16_t *parents, size_t parents_len, const double *heights, size_t heights_len,
+                              uint64_t *words, size_t words_len);
+uint64_t rove_wide_exchange(uint16_t *pairs, size_t pairs_len, uint16_t *parents, size_t parents_len, const double *heights, size_t heights_len,
+                            uint64_t *words, size_t words_len);
+uint64_t rove_wilson_balding(uint16_t *pairs, size_t pairs_len, uint16_t *parents, size_t parents_len, double *heights, size_t heights_len,
+                             uint64_t *words, size_t words_len);
+
+/* With the tuning in ROVE_TUNING. */
+uint64_t rove_root_scale(const uint16_t *pairs, size_t pairs_len, const uint16_t *parents, size_t parents_len, double *heights, size_t heights_len,
+                         uint64_t *words, size_t words_len);
+uint64_t rove_tree_scale(const uint16_t *pairs, size_t pairs_len, const uint16_t *parents, size_t parents_len, double *heights, size_t heights_len,
+                         uint64_t *words, size_t words_len);
+
+/* The same without validating the tree, for one that was accepted and has since been changed by these calls alone; parameters and allowance are still
+ * checked. On an accepted tree each does exactly what its namesake does. On any other slices it ends and stays within them, and no more is promised. */
+uint64_t rove_node_height_unvalidated(const uint16_t *pairs, size_t pairs_len, const uint16_t *parents, size_t parents_len, double *heights,
+                                      size_t heights_len, uint64_t *words, size_t words_len);
+uint64_t rove_slide_start_unvalidated(const uint16_t *pairs, size_t pairs_len, const uint16_t *parents, size_t parents_len, const double *heights,
+                                      size_t heights_len, uint64_t *words, size_t words_len);
+uint64_t rove_subtree_slide_unvalidated(uint16_t *pairs, size_t pairs_len, uint16_t *parents, size_t parents_len, double *heights, size_t heights_len,
+                                        uint64_t *words, size_t words_len);
+uint64_t rove_narrow_exchange_unvalidated(uint16_t *pairs, size_t pairs_len, uint16_t *parents, size_t parents_len, const double *heights,
+                                          size_t heights_len, uint64_t *words, size_t words_len);
+uint64_t rove_wide_exchange_unvalidated(uint16_t *pairs, size_t pairs_len, uint16_t *parents, size_t parents_len, const double *heights,
+                                        size_t heights_len, uint64_t *words, size_t words_len);
+uint64_t rove_wilson_balding_unvalidated(uint16_t *pairs, size_t pairs_len, uint16_t *parents, size_t parents_len, double *heights, size_t heights_len,
+                                         uint64_t *words, size_t words_len);
+uint64_t rove_root_scale_unvalidated(const uint16_t *pairs, size_t pairs_len, const uint16_t *parents, size_t parents_len, double *heights,
+                                     size_t heights_len, uint64_t *words, size_t words_len);
+uint64_t rove_tree_scale_unvalidated(const uint16_t *pairs, size_t pairs_len, const uint16_t *parents, size_t parents_len, double *heights,
+                                     size_t heights_len, uint64_t *words, size_t words_len);
+
+/* ---- the state file */
+
+/* The answer to a state file, as text: how many bytes of `answer` were written, or 0 where it is too short, which then stays as it is. */
+size_t rove_answer(const uint8_t *file, size_t file_len, uint8_t *answer, size_t answer_len);
+
+/* ---- parameters. A flag is 0 for "missing", and any other number for "given". In and out: read, and written where the call is done. */
+
+/* Word 13 a value (in and out), 14 its upper end; the tuning in ROVE_TUNING, here and in the scales below. */
+uint64_t rove_scale(uint64_t *words, size_t words_len);
+
+/* Word 13 a flag, 14 the mean rate of the clock (in and out). */
+uint64_t rove_clock_rate_scale(uint64_t *words, size_t words_len);
+
+/* Word 13 the kind of speciation, 0 Yule and any other birth-death; 14 and 15 its rates (in and out), of which Yule has the first alone; 16 the upper
+ * end, which rove_relative_death_scale does not read. */
+uint64_t rove_birth_difference_scale(uint64_t *words, size_t words_len);
+uint64_t rove_birth_rate_scale(uint64_t *words, size_t words_len);
+uint64_t rove_relative_death_scale(uint64_t *words, size_t words_len);
+
+/* The relaxed clock: word 13 a flag, 14 sigma, which the first of the two scales; `rates` are its rates, one of which the second scales. */
+uint64_t rove_clock_sigma_scale(const double *rates, size_t rates_len, uint64_t *words, size_t words_len);
+uint64_t rove_branch_rate_scale(double *rates, size_t rates_len, uint64_t *words, size_t words_len);
+
+/* Whether sigma in word 14 and the rates are a relaxed clock. */
+uint64_t rove_clock(const double *rates, size_t rates_len, uint64_t *words, size_t words_len);
+
+/* The bits of a node's rate into ROVE_FIRST: sigma in word 14, the node in ROVE_NODE, the root in ROVE_ROOT. */
+uint64_t rove_branch_rate(const double *rates, size_t rates_len, uint64_t *words, size_t words_len);
+
+/* A new sigma, from word 15 into 14; or a new rate from word 15, at the index in ROVE_NODE. ROVE_FIRST is 1 where it was stored, else 0. */
+uint64_t rove_set_sigma(const double *rates, size_t rates_len, uint64_t *words, size_t words_len);
+uint64_t rove_set_rate(double *rates, size_t rates_len, uint64_t *words, size_t words_len);
+
+/* The fossilized birth-death process in words 13 to 17, and its priors: a flag and a value for each mean, a flag and two shapes for present sampling. */
+enum {
+    ROVE_FBD_BIRTH = 13,
+    ROVE_FBD_DEATH = 14,
+    ROVE_FBD_FOSSIL_SAMPLING = 15,
+    ROVE_FBD_PRESENT_SAMPLING = 16,
+    ROVE_FBD_ORIGIN = 17,
+    ROVE_PRIOR_BIRTH_MEAN = 18,
+    ROVE_PRIOR_DEATH_MEAN = 20,
+    ROVE_PRIOR_FOSSIL_SAMPLING_MEAN = 22,
+    ROVE_PRIOR_PRESENT_SAMPLING_BETA = 24,
+    ROVE_PRIOR_ORIGIN_EXCESS_MEAN = 27,
+    ROVE_FBD_OFFSET = 29
+};
+
+/* What rove_fbd_scale scales, in ROVE_NODE. */
+enum { ROVE_FIELD_BIRTH = 0, ROVE_FIELD_DEATH = 1, ROVE_FIELD_FOSSIL_SAMPLING = 2, ROVE_FIELD_ORIGIN = 3 };
+
+/* One field of the process (words 13 to 17, in and out), its priors in words 18 to 28 and the offset in word 29. */
+uint64_t rove_fbd_scale(uint64_t *words, size_t words_len);
+
+/* Whether the priors in words 18 to 28 are in order. */
+uint64_t rove_validate_priors(uint64_t *words, size_t words_len);
+
+/* Tip dating, the process in words 13 to 17; `minima` and `maxima` have one age for each tip. rove_initialize puts every tip at the middle of its ages
+ * and scales the internal heights to what is left under the origin. rove_propose_age is TipAge: it moves one tip, and is given ROVE_GENERATOR and
+ * ROVE_ALLOWANCE. */
+uint64_t rove_initialize(const uint16_t *pairs, size_t pairs_len, const uint16_t *parents, size_t parents_len, double *heights, size_t heights_len,
+                         const double *minima, size_t minima_len, const double *maxima, size_t maxima_len, uint64_t *words, size_t words_len);
+uint64_t rove_propose_age(const uint16_t *pairs, size_t pairs_len, const uint16_t *parents, size_t parents_len, double *heights, size_t heights_len,
+                          const double *minima, size_t minima_len, const double *maxima, size_t maxima_len, uint64_t *words, size_t words_len);
+
+/* The terms of the Yule density at the rate in word 13: the tips less 1 into ROVE_FIRST, the bits of the rate into word 14, those of the rate times the
+ * total into 15; ROVE_DECLINED where the density is minus infinity. */
+uint64_t rove_yule_log_density(const uint16_t *pairs, size_t pairs_len, const uint16_t *parents, size_t parents_len, const double *heights,
+                               size_t heights_len, uint64_t *words, size_t words_len);
+
+/* Of a set of tips, `members` having one byte for each tip, which is not 0 where the tip is in the set: whether the set is monophyletic, 1 or 0 into
+ * ROVE_FIRST; and the height of the first node in postorder over all of its tips, in whole thousandths, into ROVE_FIRST. */
+uint64_t rove_is_monophyletic(const uint16_t *pairs, size_t pairs_len, const uint16_t *parents, size_t parents_len, const double *heights,
+                              size_t heights_len, const uint8_t *members, size_t members_len, uint64_t *words, size_t words_len);
+uint64_t rove_clade_age(const uint16_t *pairs, size_t pairs_len, const uint16_t *parents, size_t parents_len, const double *heights, size_t heights_len,
+                        const uint8_t *members, size_t members_len, uint64_t *words, size_t words_len);
+
+#ifdef __cplusplus
+}
+#endif
+
+#endif
