@@ -1,6 +1,6 @@
 -- The ways through the code that writes. Assumes nothing.
 use mathlib.Core.Path.{_≡_, sym, ap, _∙_}
-use mathlib.Core.List.{List, [], _∷_}
+use mathlib.Core.List.{List, [], _∷_, _++_, append-nil}
 use Prim.Native.Nat.{ℕ, zero, suc, _+_, _-_, _*_, _/_, _%_, _^_, _≤_, _<_}
 use native.Mathlib.Nat.{zero-add}
 use native.Mathlib.Numerals.{add-one}
@@ -11,10 +11,10 @@ use lib.Seq.{drop-cons}
 use borrow.Author.Tests.{lt-ltb}
 use mir.Syntax.{w64}
 use mir.Val.{Fits}
-use Rattle.text.specs.Text.{bytes, digit, hexText, decimalText}
+use Rattle.text.specs.Text.{bytes, digit, hexText, wordText, decimalText}
 use Rattle.print.specs.Writing.{Written, written, writeByte, write}
-use Rattle.print.specs.WritingLaws.{byte-inside, byte-past, byte-then}
-use Rattle.print.specs.NumberLaws.{hex-next, decimal-one, decimal-more, digits-one, digits-more, digits-few}
+use Rattle.print.specs.WritingLaws.{byte-inside, byte-past, byte-then, write-fits}
+use Rattle.print.specs.NumberLaws.{hex-next, hex-length, decimal-one, decimal-more, digits-one, digits-more, digits-few}
 
 -- ---- a byte
 
@@ -52,26 +52,32 @@ pub table-at : (d : ℕ) → d < 16 → getD (bytes "0123456789abcdef") d 0 ≡ 
 unfolding digit from
 table-at d h = from-at digit 0 16 d h ∙ ap digit (zero-add d)
 
--- d is the slice and p the place before a digit; w is what the whole word leaves
-module _ (n : ℕ) (d : List ℕ) (p left : ℕ) (w : Written) (inv : write (written d p) (hexText left n) ≡ w) where
-  pub word-next : 0 < left → (b : ℕ) → b ≡ digit (n / 2 ^ (4 * (left - 1)) % 16) → (o : List ℕ) (r : ℕ) → written o r ≡ writeByte (written d p) b
-      → write (written o r) (hexText (left - 1) n) ≡ w
+-- d is the slice and p the place before a digit, and the 16 digits from `at` on fit into d₀, the slice at first; w is what the whole word leaves
+module _ (n : ℕ) (d : List ℕ) (p left : ℕ) (w : Written) (inv : write (written d p) (hexText left n) ≡ w)
+    (d₀ : List ℕ) (at : ℕ) (fit : at + 16 ≤ length d₀) (long : length d ≡ length d₀) (places : p + left ≡ at + 16) where
+  pub word-next : 0 < left → (digits : List ℕ) → digits ≡ bytes "0123456789abcdef"
+      → write (written (set d p (getD digits (n / 2 ^ (4 * (left - 1)) % 16) 0)) (p + 1)) (hexText (left - 1) n) ≡ w
   unfolding write
-  word-next h b eb o r e = rw (e, eb) (rw (hex-next left n h) at inv)
+  word-next h digits e =
+      let b = n / 2 ^ (4 * (left - 1)) % 16 in
+      rw (e, table-at b (omega arith), byte-inside d p (digit b) (omega arith)) (rw (hex-next left n h) at inv)
 
-  pub word-end : left ≤ 0 → written d p ≡ w
+  pub word-end : left ≤ 0 → written d (at + 16) ≡ w
   unfolding write hexText
-  word-end h = let e : left ≡ 0 = omega arith in rw e at inv
+  word-end h =
+      let e : left ≡ 0 = omega arith in
+      let q : at + 16 ≡ p = omega arith in
+      rw q (rw e at inv)
 
-  -- the 16 digits from `at` on fit into d₀, the slice at first
-  module _ (d₀ : List ℕ) (at : ℕ) (fit : at + 16 ≤ length d₀) (long : length d ≡ length d₀) (places : p + left ≡ at + 16) where
-    pub store-next : 0 < left → (b : ℕ) → b ≡ digit (n / 2 ^ (4 * (left - 1)) % 16) → write (written (set d p b) (p + 1)) (hexText (left - 1) n) ≡ w
-    store-next h b eb = word-next h b eb (set d p b) (p + 1) (byte-inside d p b (omega arith))
+-- a word that was stored in a text of its own
+pub word-own : (n : ℕ) (d text : List ℕ) → length d ≡ 16 → written text 16 ≡ write (written d 0) (wordText n) → (w v : Written) → v ≡ write w text → v ≡ write w (wordText n)
+word-own n d text l e w v ev =
+    let h = hex-length 16 n in
+    let none : drop (0 + length (wordText n)) d ≡ [] = drop-of-length-le d {i = 0 + length (wordText n)} (omega arith) in
+    let whole : written text 16 ≡ written (wordText n ++ drop (0 + length (wordText n)) d) (0 + length (wordText n)) = e ∙ write-fits d 0 (wordText n) (omega arith) in
+    rw (← append-nil (wordText n), ← none, ← ap (λ (x : Written). x .bytes) whole) ev
 
-    pub store-end : left ≤ 0 → written d (at + 16) ≡ w
-    store-end h = let e : at + 16 ≡ p = omega arith in rw e (word-end h)
-
-pub ruleset wordLaws = (word-next, word-end, store-next, store-end)
+pub ruleset wordLaws = (word-next, word-end, word-own)
 
 -- ---- a number
 

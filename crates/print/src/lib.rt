@@ -31,24 +31,17 @@ pub fn put_text(out: &mut [u8], at: usize, text: &[u8]) -> usize
 
 // ---- hexadecimal
 
-fn hex_byte(d: u64) -> u8
-    requires { ⌜ d < 16 ⌝ }
-    ensures { λ r. ⌜ r ≡ digit d ⌝ }
-{
-    let digits = b"0123456789abcdef";
-    digits[d as usize]
-}
-
-// A word whose 16 digits fit, so that no digit is tested.
+// A word whose 16 digits fit, so that no place is tested.
 fn store_word(out: &mut [u8], at: usize, w: u64)
     requires { ⌜ at + 16 ≤ length (now out) ⌝ }
     ensures { λ _. ⌜ written (now (out .exit)) (at + 16) ≡ write (written (now (out .entry)) at) (wordText w) ⌝ }
 {
+    let digits = b"0123456789abcdef";
     let mut place = at;
     let mut left: u64 = 16;
     while 0 < left {
         left -= 1;
-        out[place] = hex_byte((w >> (4 * left)) % 16);
+        out[place] = digits[((w >> (4 * left)) % 16) as usize];
         place += 1;
     }
 }
@@ -57,13 +50,9 @@ fn store_word(out: &mut [u8], at: usize, w: u64)
 fn put_word_near_end(out: &mut [u8], at: usize, w: u64) -> usize
     ensures { λ r. ⌜ written (now (out .exit)) r ≡ write (written (now (out .entry)) at) (wordText w) ⌝ }
 {
-    let mut place = at;
-    let mut left: u64 = 16;
-    while 0 < left {
-        left -= 1;
-        place = put_byte(&mut *out, place, hex_byte((w >> (4 * left)) % 16));
-    }
-    place
+    let mut text = [0u8; 16];
+    store_word(&mut text, 0, w);
+    put_text(out, at, &text)
 }
 
 // How many bytes there are from a place of a slice to its end.

@@ -1,63 +1,34 @@
 -- `print::put_word_near_end` meets its contract. Assumes nothing.
-use mathlib.Core.Path.{_≡_}
-use Prim.Native.Nat.{_≤_}
-use lib.ListN.{length}
-use Rattle.text.specs.Text.{hexText}
-use Rattle.print.specs.Writing.{written, write}
 use Rattle.print.proofs.PutLaws.{wordLaws}
 use borrow.Author.Needs.{needs}
 use Rattle.print.proofs.put_word_near_end.Statement.{statement}
 use Rattle.print.proofs.put_word_near_end.Tie as tie
 
-abbrev Inv-loop : tie.InvT-loop
-Inv-loop out₀ at w place₀ left₀ out place left = (left ≤ 16) × (length out ≡ length out₀) × (write (written out place) (hexText left w) ≡ write (written out₀ at) (hexText 16 w))
+slice-aggregate-store-word : tie.Need-slice-aggregate-store-word
+slice-aggregate-store-word c = search (wordLaws, needs)
 
-abbrev μ-loop : tie.MeasureT-loop
-μ-loop out₀ at w place₀ left₀ out place left = left
+store-word-requires : tie.Need-store-word-requires
+store-word-requires c κs = search (wordLaws, needs)
 
-loop-holds : tie.Need-loop-holds Inv-loop μ-loop
-loop-holds c = search (wordLaws, needs)
+slice-aggregate-put-text : tie.Need-slice-aggregate-put-text
+slice-aggregate-put-text c = search (wordLaws, needs)
 
-sub-left : tie.Need-sub-left Inv-loop μ-loop
-sub-left c = search (wordLaws, needs)
+put-text-requires : tie.Need-put-text-requires
+put-text-requires c κs = search (wordLaws, needs)
 
-mul-hex-byte : tie.Need-mul-hex-byte Inv-loop μ-loop
-mul-hex-byte c = search (wordLaws, needs)
-
-shr-hex-byte : tie.Need-shr-hex-byte Inv-loop μ-loop
-shr-hex-byte c = search (wordLaws, needs)
-
-hex-byte-requires : tie.Need-hex-byte-requires Inv-loop μ-loop
-hex-byte-requires c κs = search (wordLaws, needs)
-
-put-byte-requires : tie.Need-put-byte-requires Inv-loop μ-loop
-put-byte-requires c κs = search (wordLaws, needs)
-
-loop-less : tie.Need-loop-less Inv-loop μ-loop
-loop-less c = search (wordLaws, needs)
-
-loop-again : tie.Need-loop-again Inv-loop μ-loop
-loop-again c = search (wordLaws, needs)
-
-same-length : tie.Need-same-length Inv-loop μ-loop
+same-length : tie.Need-same-length
 same-length c = search (wordLaws, needs)
 
-returns : tie.Need-returns Inv-loop μ-loop
+returns : tie.Need-returns
 returns c = search (wordLaws, needs)
 
 pub put-word-near-end-spec : {M : Type 1} → statement M
 put-word-near-end-spec =
     tie.close
     (tie.spec
-    Inv-loop
-    μ-loop
-    loop-holds
-    sub-left
-    mul-hex-byte
-    shr-hex-byte
-    hex-byte-requires
-    put-byte-requires
-    loop-less
-    loop-again
+    slice-aggregate-store-word
+    store-word-requires
+    slice-aggregate-put-text
+    put-text-requires
     same-length
     returns)

@@ -2,7 +2,7 @@
 use mathlib.Core.Path.{_≡_}
 use Prim.Native.Nat.{_+_, _≤_}
 use lib.ListN.{length}
-use Rattle.text.specs.Text.{hexText}
+use Rattle.text.specs.Text.{bytes, hexText}
 use Rattle.print.specs.Writing.{written, write}
 use Rattle.print.proofs.PutLaws.{wordLaws}
 use borrow.Author.Needs.{needs}
@@ -10,10 +10,10 @@ use Rattle.print.proofs.store_word.Statement.{statement}
 use Rattle.print.proofs.store_word.Tie as tie
 
 abbrev Inv-loop : tie.InvT-loop
-Inv-loop out₀ at w place₀ left₀ out place left = (left ≤ 16) × (place + left ≡ at + 16) × (length out ≡ length out₀) × (write (written out place) (hexText left w) ≡ write (written out₀ at) (hexText 16 w))
+Inv-loop out₀ at w digits place₀ left₀ out place left = (left ≤ 16) × (place + left ≡ at + 16) × (digits ≡ bytes "0123456789abcdef") × (length out ≡ length out₀) × (write (written out place) (hexText left w) ≡ write (written out₀ at) (hexText 16 w))
 
 abbrev μ-loop : tie.MeasureT-loop
-μ-loop out₀ at w place₀ left₀ out place left = left
+μ-loop out₀ at w digits place₀ left₀ out place left = left
 
 loop-holds : tie.Need-loop-holds Inv-loop μ-loop
 loop-holds c = search (wordLaws, needs)
@@ -21,14 +21,14 @@ loop-holds c = search (wordLaws, needs)
 sub-left : tie.Need-sub-left Inv-loop μ-loop
 sub-left c = search (wordLaws, needs)
 
-mul-hex-byte : tie.Need-mul-hex-byte Inv-loop μ-loop
-mul-hex-byte c = search (wordLaws, needs)
+mul-out : tie.Need-mul-out Inv-loop μ-loop
+mul-out c = search (wordLaws, needs)
 
-shr-hex-byte : tie.Need-shr-hex-byte Inv-loop μ-loop
-shr-hex-byte c = search (wordLaws, needs)
+shr-out : tie.Need-shr-out Inv-loop μ-loop
+shr-out c = search (wordLaws, needs)
 
-hex-byte-requires : tie.Need-hex-byte-requires Inv-loop μ-loop
-hex-byte-requires c κs = search (wordLaws, needs)
+element-copy-out-out : tie.Need-element-copy-out-out Inv-loop μ-loop
+element-copy-out-out c = search (wordLaws, needs)
 
 slice-write-out : tie.Need-slice-write-out Inv-loop μ-loop
 slice-write-out c = search (wordLaws, needs)
@@ -56,9 +56,9 @@ store-word-spec =
     μ-loop
     loop-holds
     sub-left
-    mul-hex-byte
-    shr-hex-byte
-    hex-byte-requires
+    mul-out
+    shr-out
+    element-copy-out-out
     slice-write-out
     add-place
     loop-less
