@@ -49,7 +49,7 @@ onF allowance move height = record {
   words = 1 ∷ 2 ∷ 3 ∷ 4 ∷ [];
   move = move;
   pairs = 65535 ∷ 65535 ∷ 65535 ∷ 65535 ∷ 65535 ∷ 65535 ∷ 0 ∷ 1 ∷ 3 ∷ 2 ∷ [];
-  heights = real 0 ∷ real 0 ∷ real 0 ∷ real 0x3ff0_0000_0000_0000 ∷ height ∷ []
+  heights = real 0 ∷ real 0 ∷ real 0 ∷ real 0x3ff0_0000_0000_0000 ∷ height ∷ [];
 }
 
 -- 0.5 and 2.0
@@ -125,5 +125,5 @@ file-rows = record {
   wide = refl;
   tuning-unused = refl;
   pair-most = refl;
-  no-tips = refl
+  no-tips = refl;
 }
