@@ -13,13 +13,20 @@ ghost use Rattle.respond.specs.Respond.{stateReply, readReply, fileReply
 ghost use Rattle.respond.specs.Given.{Lent, Room, nodes};
 use answer::Refusal;
 use calls::Answered;
+use exchanges::narrow_exchange_unvalidated;
+use exchanges::wide_exchange_unvalidated;
 use forms::Kind;
 use forms::Words;
+use heights::node_height_unvalidated;
+use heights::root_scale_unvalidated;
+use heights::tree_scale_unvalidated;
 use random::Random;
+use slide::subtree_slide_unvalidated;
 use statefile::Asked;
 use statefile::FileRead;
 use statefile::Head;
 use tree::Rooted;
+use wilson::wilson_balding_unvalidated;
 
 // The move that is asked for, on a tree that was accepted.
 fn make(
@@ -29,85 +36,34 @@ fn make(
     heights: &mut [f64],
     root: usize,
     random: Random,
-    allowance: u32,
+    allowed: u32,
 ) -> Answered
-    ensures { λ r. ⌜ (Accepted (treeOf (now (pairs .entry)) (now (parents .entry)) (now (heights .entry)) root) → called (r .answer) (r .random) (now (pairs .exit)) (now (parents .exit)) (now (heights .exit)) ≡ moveCall (moveOf (asked .kind) (asked .node) (asked .tuning)) (treeOf (now (pairs .entry)) (now (parents .entry)) (now (heights .entry)) root) random allowance) ⌝ }
+    ensures { λ r. ⌜ (Accepted (treeOf (now (pairs .entry)) (now (parents .entry)) (now (heights .entry)) root) → called (r .answer) (r .random) (now (pairs .exit)) (now (parents .exit)) (now (heights .exit)) ≡ moveCall (moveOf (asked .kind) (asked .node) (asked .tuning)) (treeOf (now (pairs .entry)) (now (parents .entry)) (now (heights .entry)) root) random allowed) ⌝ }
 {
+    let k = asked.node;
+    let x = asked.tuning;
     let kind = asked.kind;
     match kind {
         Kind::NodeHeight => {
-            return heights::node_height_unvalidated(
-                pairs,
-                parents,
-                heights,
-                root,
-                random,
-                allowance,
-            );
+            return node_height_unvalidated(pairs, parents, heights, root, random, allowed);
         }
         Kind::SubtreeSlide => {
-            return slide::subtree_slide_unvalidated(
-                pairs,
-                parents,
-                heights,
-                root,
-                asked.node,
-                asked.tuning,
-                random,
-                allowance,
-            );
+            return subtree_slide_unvalidated(pairs, parents, heights, root, k, x, random, allowed);
         }
         Kind::NarrowExchange => {
-            return exchanges::narrow_exchange_unvalidated(
-                pairs,
-                parents,
-                heights,
-                root,
-                random,
-                allowance,
-            );
+            return narrow_exchange_unvalidated(pairs, parents, heights, root, random, allowed);
         }
         Kind::WideExchange => {
-            return exchanges::wide_exchange_unvalidated(
-                pairs,
-                parents,
-                heights,
-                root,
-                random,
-                allowance,
-            );
+            return wide_exchange_unvalidated(pairs, parents, heights, root, random, allowed);
         }
         Kind::WilsonBalding => {
-            return wilson::wilson_balding_unvalidated(
-                pairs,
-                parents,
-                heights,
-                root,
-                random,
-                allowance,
-            );
+            return wilson_balding_unvalidated(pairs, parents, heights, root, random, allowed);
         }
         Kind::RootScale => {
-            return heights::root_scale_unvalidated(
-                pairs,
-                parents,
-                heights,
-                root,
-                asked.tuning,
-                random,
-                allowance,
-            );
+            return root_scale_unvalidated(pairs, parents, heights, root, x, random, allowed);
         }
         Kind::TreeScale => {
-            return heights::tree_scale_unvalidated(
-                pairs,
-                parents,
-                heights,
-                root,
-                asked.tuning,
-                random,
-                allowance,
-            );
+            return tree_scale_unvalidated(pairs, parents, heights, root, x, random, allowed);
         }
     }
 }
