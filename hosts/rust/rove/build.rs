@@ -1,17 +1,15 @@
 //! Links the archives that `rt staticlib` writes: from target/staticlib of the repository, or from the folder that
 //! ROVE_ARCHIVES names.
 
+use std::env;
 use std::path::PathBuf;
-use std::{env, fs};
 
-const ARCHIVES: [&str; 4] = ["rove", "rove_unvalidated", "rove_answer", "rove_parameters"];
-
-/// The parts of the wrapper, each with a function by which it is told whether the archives have it yet.
-const PARTS: [(&str, &str); 4] = [
-    ("moves", "rove_new"),
-    ("unvalidated", "rove_node_height_unvalidated"),
-    ("answer", "rove_answer"),
-    ("parameters", "rove_scale"),
+/// The archives, each with the part of the wrapper that needs it.
+const ARCHIVES: [(&str, &str); 4] = [
+    ("rove", "moves"),
+    ("rove_unvalidated", "unvalidated"),
+    ("rove_answer", "answer"),
+    ("rove_parameters", "parameters"),
 ];
 
 fn main() {
@@ -22,22 +20,15 @@ fn main() {
             .join("../../../target/staticlib"),
     };
     println!("cargo:rustc-link-search=native={}", folder.display());
-    let mut all = Vec::new();
-    for archive in ARCHIVES {
+    for (archive, part) in ARCHIVES {
         let path = folder.join(format!("lib{archive}.a"));
         println!("cargo:rerun-if-changed={}", path.display());
-        if let Ok(bytes) = fs::read(&path) {
-            println!("cargo:rustc-link-lib=static={archive}");
-            all.extend(bytes);
-        }
-    }
-    for (part, function) in PARTS {
         println!("cargo:rustc-check-cfg=cfg({part})");
-        let symbol = format!("\0{function}\0");
-        if all.windows(symbol.len()).any(|window| window == symbol.as_bytes()) {
+        if path.exists() {
+            println!("cargo:rustc-link-lib=static={archive}");
             println!("cargo:rustc-cfg={part}");
         } else {
-            println!("cargo:warning={function} is in none of the archives yet");
+            println!("cargo:warning={} is not there", path.display());
         }
     }
 }
