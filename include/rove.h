@@ -20,7 +20,8 @@
  *   no record (fewer than ROVE_WORDS words) nothing at all.
  * All other words stay as they came.
  *
- * The functions from rove_seed to rove_answer are in librove.a, those on parameters in librove_parameters.a, for x86-64 Linux. */
+ * The archives, for x86-64 Linux: librove.a has the functions from rove_seed to rove_tree_scale, librove_unvalidated.a those whose names end in _unvalidated,
+ * librove_answer.a rove_answer, and librove_parameters.a those on parameters. `rt staticlib` writes each. */
 #ifndef ROVE_H
 #define ROVE_H
 
