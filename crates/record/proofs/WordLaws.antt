@@ -4,7 +4,7 @@ use mathlib.Core.List.{List, [], _∷_}
 use Prim.Native.Nat.{ℕ, _≤_, _<_}
 use native.Mathlib.Omega.{arith}
 use lib.ListN.{length, getD, set, List·getD-eq-default}
-use lib.Seq.{set-out, sets}
+use lib.Seq.{sets}
 use lib.Ieee.{Float, binary64, ofBits, toBits}
 use mir.Syntax.{w32}
 use mir.Val.{Fits}
@@ -45,9 +45,6 @@ pub ruleset readLaws = (word-missing, real-is, generator-is, allowance-none, all
 
 -- ---- writing
 
-pub put-missing : (words : List ℕ) (k x : ℕ) → length words ≤ k → words ≡ set words k x
-put-missing words k x h = sym (set-out words k x h)
-
 pub put-real-is : (words after : List ℕ) (k w : ℕ) (x : Float) → w ≡ toBits binary64 x → after ≡ set words k w → after ≡ set words k (toBits binary64 x)
 put-real-is words after k w x e f = rw (f, e)
 
@@ -64,4 +61,4 @@ pub put-generator-is : (g : Random) (words after s : List ℕ) → s ≡ stateOf
     → after ≡ sets words 0 (getD s 0 0 ∷ getD s 1 0 ∷ getD s 2 0 ∷ getD s 3 0 ∷ []) → after ≡ withGenerator g words
 put-generator-is g words after s e l h = h ∙ ap (sets words 0) (sym (four s l) ∙ e)
 
-pub ruleset writeLaws = (put-missing, put-real-is, put-generator-is)
+pub ruleset writeLaws = (put-real-is, put-generator-is)

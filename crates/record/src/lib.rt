@@ -1,8 +1,9 @@
 // The record of a call: a slice of 64-bit words in which a host hands a call its numbers and finds what it answers. specs/Record.antt gives the place
-// and the form of each. Every function takes any slice: a word that is not there reads as 0, and a store to it is left out. Assumes nothing.
+// and the form of each. A word that is not there reads as 0; what writes asks that the words are a record, which every call tests first. Assumes nothing.
 ghost use mathlib.Core.Path.{_≡_};
 ghost use mathlib.Core.List.{[], _∷_};
-ghost use lib.ListN.{set};
+ghost use Prim.Native.Nat.{_≤_, _<_};
+ghost use lib.ListN.{length, set};
 ghost use lib.Seq.{sets};
 ghost use lib.Ieee.{binary64, toBits};
 ghost use Rattle.record.specs.Record.{isRecord, wordIn, realIn, generatorIn, rootIn, allowanceIn, nodeIn, tuningIn, givenIn};
@@ -129,14 +130,14 @@ pub fn read(words: &[u64]) -> Given
 // ---- what a call writes
 
 pub fn put(words: &mut [u64], k: usize, x: u64)
+    requires { ⌜ k < length (now words) ⌝ }
     ensures { λ _. ⌜ now (words .exit) ≡ set (now (words .entry)) k x ⌝ }
 {
-    if k < words.len() {
-        words[k] = x;
-    }
+    words[k] = x;
 }
 
 pub fn put_real(words: &mut [u64], k: usize, x: f64)
+    requires { ⌜ k < length (now words) ⌝ }
     ensures { λ _. ⌜ now (words .exit) ≡ set (now (words .entry)) k (toBits binary64 x) ⌝ }
 {
     put(words, k, real::to_bits(x));
@@ -144,6 +145,7 @@ pub fn put_real(words: &mut [u64], k: usize, x: f64)
 
 // Words 0 to 3.
 fn put_first(words: &mut [u64], a: u64, b: u64, c: u64, d: u64)
+    requires { ⌜ 32 ≤ length (now words) ⌝ }
     ensures { λ _. ⌜ now (words .exit) ≡ sets (now (words .entry)) 0 (a ∷ b ∷ c ∷ d ∷ []) ⌝ }
 {
     put(words, 0, a);
@@ -153,6 +155,7 @@ fn put_first(words: &mut [u64], a: u64, b: u64, c: u64, d: u64)
 }
 
 pub fn put_generator(words: &mut [u64], random: Random)
+    requires { ⌜ 32 ≤ length (now words) ⌝ }
     ensures { λ _. ⌜ now (words .exit) ≡ withGenerator random (now (words .entry)) ⌝ }
 {
     let s = random.state();
@@ -160,12 +163,14 @@ pub fn put_generator(words: &mut [u64], random: Random)
 }
 
 pub fn put_root(words: &mut [u64], root: usize)
+    requires { ⌜ 32 ≤ length (now words) ⌝ }
     ensures { λ _. ⌜ now (words .exit) ≡ withRoot root (now (words .entry)) ⌝ }
 {
     put(words, ROOT, root as u64);
 }
 
 pub fn put_node(words: &mut [u64], node: usize)
+    requires { ⌜ 32 ≤ length (now words) ⌝ }
     ensures { λ _. ⌜ now (words .exit) ≡ withNode node (now (words .entry)) ⌝ }
 {
     put(words, NODE, node as u64);
@@ -173,6 +178,7 @@ pub fn put_node(words: &mut [u64], node: usize)
 
 // Words 8 to 12; the answer code.
 pub fn put_reply(words: &mut [u64], reply: Reply) -> u64
+    requires { ⌜ 32 ≤ length (now words) ⌝ }
     ensures { λ r. ⌜ written r (now (words .exit)) ≡ replied reply (now (words .entry)) ⌝ }
 {
     put(words, ANSWER, reply.code);
@@ -239,6 +245,7 @@ fn moved(draws: u32, ratio: Ratio) -> Reply
 
 // Code 0 with two values, of a call whose answer has no ratio.
 pub fn put_given(words: &mut [u64], draws: u32, first: u64, second: u64) -> u64
+    requires { ⌜ 32 ≤ length (now words) ⌝ }
     ensures { λ r. ⌜ written r (now (words .exit)) ≡ replied (givenReply draws first second) (now (words .entry)) ⌝ }
 {
     put_reply(
@@ -254,6 +261,7 @@ pub fn put_given(words: &mut [u64], draws: u32, first: u64, second: u64) -> u64
 }
 
 pub fn put_refusal(words: &mut [u64], why: Refusal) -> u64
+    requires { ⌜ 32 ≤ length (now words) ⌝ }
     ensures { λ r. ⌜ written r (now (words .exit)) ≡ replied (refusedReply why) (now (words .entry)) ⌝ }
 {
     put_reply(
@@ -270,6 +278,7 @@ pub fn put_refusal(words: &mut [u64], why: Refusal) -> u64
 
 // What a call on parameters answers.
 pub fn put_proposal(words: &mut [u64], proposal: Proposal, random: Random) -> u64
+    requires { ⌜ 32 ≤ length (now words) ⌝ }
     ensures { λ r. ⌜ written r (now (words .exit)) ≡ proposed proposal random (now (words .entry)) ⌝ }
 {
     match proposal {
@@ -298,6 +307,7 @@ pub fn put_proposal(words: &mut [u64], proposal: Proposal, random: Random) -> u6
 
 // What a tree move answers.
 pub fn put_answer(words: &mut [u64], a: Answered) -> u64
+    requires { ⌜ 32 ≤ length (now words) ⌝ }
     ensures { λ r. ⌜ written r (now (words .exit)) ≡ answered (a .answer) (a .random) (now (words .entry)) ⌝ }
 {
     let random = a.random;
@@ -319,6 +329,7 @@ pub fn put_answer(words: &mut [u64], a: Answered) -> u64
 
 // What a check answers, which makes no draws.
 pub fn put_verdict(words: &mut [u64], verdict: Verdict) -> u64
+    requires { ⌜ 32 ≤ length (now words) ⌝ }
     ensures { λ r. ⌜ written r (now (words .exit)) ≡ judged verdict (now (words .entry)) ⌝ }
 {
     match verdict {

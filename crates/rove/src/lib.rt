@@ -2,6 +2,8 @@
 // slices and, last, the words of a record (crate record), and returns the answer code: 0 done, 1 declined, 2 refused, 3 where there are not enough
 // words for a record, which changes nothing. None has a `requires`. include/rove.h declares them for C. Assumes nothing.
 ghost use mathlib.Core.Path.{_≡_};
+ghost use Prim.Native.Nat.{_≤_};
+ghost use lib.ListN.{length};
 ghost use Rattle.moves.specs.Moves.{nodeHeight, subtreeSlide, narrowExchange, wideExchange, wilsonBalding, rootScale, treeScale};
 ghost use Rattle.record.specs.Record.{written, nodeIn, tuningIn};
 ghost use Rattle.rove.specs.Exports.{left, filled, exported, startExported, validateExported, newExported, postorderExported, seedExported, nextExported, belowExported, belowLeft, rootLeft, begunLeft};
@@ -42,6 +44,7 @@ pub extern "C" fn rove_next_u64(words: &mut [u64]) -> u64
 }
 
 fn put_below(words: &mut [u64], d: DrawnBelow) -> u64
+    requires { ⌜ 32 ≤ length (now words) ⌝ }
     ensures { λ r. ⌜ written r (now (words .exit)) ≡ belowLeft (d .answer) (d .random) (now (words .entry)) ⌝ }
 {
     let random = d.random;
@@ -72,6 +75,7 @@ pub extern "C" fn rove_below(words: &mut [u64]) -> u64
 // ---- the tree
 
 fn put_rooted(words: &mut [u64], rooted: Rooted) -> u64
+    requires { ⌜ 32 ≤ length (now words) ⌝ }
     ensures { λ r. ⌜ written r (now (words .exit)) ≡ rootLeft rooted (now (words .entry)) ⌝ }
 {
     match rooted {
@@ -165,6 +169,7 @@ pub extern "C" fn rove_node_height(
 
 // The answer of a slide's first call.
 pub fn put_started(words: &mut [u64], started: Started) -> u64
+    requires { ⌜ 32 ≤ length (now words) ⌝ }
     ensures { λ r. ⌜ written r (now (words .exit)) ≡ begunLeft (started .answer) (started .random) (now (words .entry)) ⌝ }
 {
     let random = started.random;
