@@ -1,4 +1,4 @@
 -- The definitions that record's contracts cite, the law that lets an allowance be read as its word, and those of words that are a record.
 pub mod AllowanceLaws
 pub mod Record
-pub mod RecordLaws
+pub mod RoomLaws

@@ -1,7 +1,9 @@
 // The parameters in a record (crate record): how a host hands a call its parameters, in words 13 to 31, and where it finds them after a call that
-// scaled them (specs/Parameters.antt); and how the calls that ask about a clock, a density or a clade answer in a record (specs/Answers.antt). Every
-// function takes any slice of words. Assumes nothing.
+// scaled them (specs/Parameters.antt); and how the calls that ask about a clock, a density or a clade answer in a record (specs/Answers.antt). What
+// writes asks that the words are a record. Assumes nothing.
 ghost use mathlib.Core.Path.{_≡_};
+ghost use Prim.Native.Nat.{_≤_};
+ghost use lib.ListN.{length};
 ghost use Rattle.record.specs.Record.{written};
 ghost use Rattle.record_parameters.specs.Parameters.{optionalIn, speciationIn, processIn, shapesIn, priorsIn, chosenIn};
 ghost use Rattle.record_parameters.specs.Parameters.{isScaled, proposedLeft, withReal, withOptional, withSpeciation, withProcess};
@@ -119,6 +121,7 @@ fn is_scaled(proposal: Proposal) -> bool
 
 // The answer of a call on the value in word 13.
 pub fn put_scaled(words: &mut [u64], s: Scaled) -> u64
+    requires { ⌜ 32 ≤ length (now words) ⌝ }
     ensures { λ r. ⌜ written r (now (words .exit)) ≡ proposedLeft (withReal 13) (s .proposal) (s .random) (s .value) (now (words .entry)) ⌝ }
 {
     let proposal = s.proposal;
@@ -131,6 +134,7 @@ pub fn put_scaled(words: &mut [u64], s: Scaled) -> u64
 }
 
 fn put_optional(words: &mut [u64], value: Optional)
+    requires { ⌜ 32 ≤ length (now words) ⌝ }
     ensures { λ _. ⌜ now (words .exit) ≡ withOptional value (now (words .entry)) ⌝ }
 {
     match value {
@@ -146,6 +150,7 @@ fn put_optional(words: &mut [u64], value: Optional)
 
 // The answer of a call on the value in word 14, which may be missing.
 pub fn put_optional_scaled(words: &mut [u64], s: OptionalScaled) -> u64
+    requires { ⌜ 32 ≤ length (now words) ⌝ }
     ensures { λ r. ⌜ written r (now (words .exit)) ≡ proposedLeft withOptional (s .proposal) (s .random) (s .value) (now (words .entry)) ⌝ }
 {
     let proposal = s.proposal;
@@ -159,6 +164,7 @@ pub fn put_optional_scaled(words: &mut [u64], s: OptionalScaled) -> u64
 }
 
 fn put_speciation(words: &mut [u64], speciation: Speciation)
+    requires { ⌜ 32 ≤ length (now words) ⌝ }
     ensures { λ _. ⌜ now (words .exit) ≡ withSpeciation speciation (now (words .entry)) ⌝ }
 {
     match speciation {
@@ -176,6 +182,7 @@ fn put_speciation(words: &mut [u64], speciation: Speciation)
 
 // The answer of a call on the speciation state.
 pub fn put_speciation_scaled(words: &mut [u64], s: SpeciationScaled) -> u64
+    requires { ⌜ 32 ≤ length (now words) ⌝ }
     ensures { λ r. ⌜ written r (now (words .exit)) ≡ proposedLeft withSpeciation (s .proposal) (s .random) (s .speciation) (now (words .entry)) ⌝ }
 {
     let proposal = s.proposal;
@@ -189,6 +196,7 @@ pub fn put_speciation_scaled(words: &mut [u64], s: SpeciationScaled) -> u64
 }
 
 fn put_process(words: &mut [u64], process: FossilizedBirthDeath)
+    requires { ⌜ 32 ≤ length (now words) ⌝ }
     ensures { λ _. ⌜ now (words .exit) ≡ withProcess process (now (words .entry)) ⌝ }
 {
     record::put_real(words, 13, process.birth);
@@ -200,6 +208,7 @@ fn put_process(words: &mut [u64], process: FossilizedBirthDeath)
 
 // The answer of a call on the process.
 pub fn put_process_scaled(words: &mut [u64], s: ProcessScaled) -> u64
+    requires { ⌜ 32 ≤ length (now words) ⌝ }
     ensures { λ r. ⌜ written r (now (words .exit)) ≡ proposedLeft withProcess (s .proposal) (s .random) (s .process) (now (words .entry)) ⌝ }
 {
     let proposal = s.proposal;
@@ -224,6 +233,7 @@ fn flag(holds: bool) -> u64
 }
 
 pub fn put_rate(words: &mut [u64], rate: Rate) -> u64
+    requires { ⌜ 32 ≤ length (now words) ⌝ }
     ensures { λ r. ⌜ written r (now (words .exit)) ≡ rateLeft rate (now (words .entry)) ⌝ }
 {
     match rate {
@@ -237,6 +247,7 @@ pub fn put_rate(words: &mut [u64], rate: Rate) -> u64
 }
 
 pub fn put_stored(words: &mut [u64], stored: Stored) -> u64
+    requires { ⌜ 32 ≤ length (now words) ⌝ }
     ensures { λ r. ⌜ written r (now (words .exit)) ≡ storedLeft stored (now (words .entry)) ⌝ }
 {
     match stored {
@@ -260,6 +271,7 @@ fn is_stored(stored: Stored) -> bool
 
 // A sigma that was stored goes into word 14.
 pub fn put_sigma(words: &mut [u64], s: SigmaSet) -> u64
+    requires { ⌜ 32 ≤ length (now words) ⌝ }
     ensures { λ r. ⌜ written r (now (words .exit)) ≡ sigmaLeft s (now (words .entry)) ⌝ }
 {
     let stored = s.stored;
@@ -272,6 +284,7 @@ pub fn put_sigma(words: &mut [u64], s: SigmaSet) -> u64
 
 // The terms of a density: the first as the first value, the others into words 14 and 15.
 pub fn put_density(words: &mut [u64], density: Density) -> u64
+    requires { ⌜ 32 ≤ length (now words) ⌝ }
     ensures { λ r. ⌜ written r (now (words .exit)) ≡ densityLeft density (now (words .entry)) ⌝ }
 {
     match density {
@@ -299,6 +312,7 @@ pub fn put_density(words: &mut [u64], density: Density) -> u64
 }
 
 pub fn put_monophyly(words: &mut [u64], monophyly: Monophyly) -> u64
+    requires { ⌜ 32 ≤ length (now words) ⌝ }
     ensures { λ r. ⌜ written r (now (words .exit)) ≡ monophylyLeft monophyly (now (words .entry)) ⌝ }
 {
     match monophyly {
@@ -312,6 +326,7 @@ pub fn put_monophyly(words: &mut [u64], monophyly: Monophyly) -> u64
 }
 
 pub fn put_age(words: &mut [u64], age: Age) -> u64
+    requires { ⌜ 32 ≤ length (now words) ⌝ }
     ensures { λ r. ⌜ written r (now (words .exit)) ≡ ageLeft age (now (words .entry)) ⌝ }
 {
     match age {

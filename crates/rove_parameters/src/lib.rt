@@ -3,6 +3,8 @@
 // (crate record_parameters), and returns the answer code: 0 done, 1 declined, 2 refused, 3 where there are not enough words for a record, which changes
 // nothing. None has a `requires`. Assumes nothing.
 ghost use mathlib.Core.Path.{_≡_};
+ghost use Prim.Native.Nat.{_≤_};
+ghost use lib.ListN.{length};
 ghost use Rattle.record.specs.Record.{written};
 ghost use Rattle.record_parameters.specs.Parameters.{processIn};
 ghost use Rattle.tree.specs.Tree.{nodesOf, tipsOf};
@@ -133,6 +135,7 @@ pub extern "C" fn rove_branch_rate_scale(rates: &mut [f64], words: &mut [u64]) -
 
 // A scale of one field of the process.
 fn field_scale(field: Field, words: &mut [u64]) -> u64
+    requires { ⌜ 32 ≤ length (now words) ⌝ }
     ensures { λ r. ⌜ written r (now (words .exit)) ≡ fieldLeft field (now (words .entry)) ⌝ }
 {
     let priors = record_parameters::priors(words);

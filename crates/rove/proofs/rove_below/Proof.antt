@@ -1,6 +1,6 @@
 -- `rove::rove_below` meets its contract. Assumes nothing.
 use borrow.Author.Needs.{needs}
-use Rattle.record.specs.RecordLaws.{recordLaws}
+use Rattle.record.specs.RoomLaws.{roomLaws}
 use Rattle.rove.proofs.ExportLaws.{drawLaws}
 use Rattle.rove.proofs.rove_below.Statement.{statement}
 use Rattle.rove.proofs.rove_below.Tie as tie
@@ -21,7 +21,7 @@ below-requires : tie.Need-below-requires
 below-requires c κs = search needs
 
 put-below-requires : tie.Need-put-below-requires
-put-below-requires c κs = search (recordLaws, needs)
+put-below-requires c κs = search (roomLaws, needs)
 
 same-length : tie.Need-same-length
 same-length c = search needs

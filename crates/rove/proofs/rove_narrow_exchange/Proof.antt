@@ -1,6 +1,6 @@
 -- `rove::rove_narrow_exchange` meets its contract. Assumes nothing.
 use borrow.Author.Needs.{needs}
-use Rattle.record.specs.RecordLaws.{recordLaws}
+use Rattle.record.specs.RoomLaws.{roomLaws}
 use Rattle.rove.proofs.ExportLaws.{moveLaws}
 use Rattle.rove.proofs.rove_narrow_exchange.Statement.{statement}
 use Rattle.rove.proofs.rove_narrow_exchange.Tie as tie
@@ -15,7 +15,7 @@ narrow-exchange-requires : tie.Need-narrow-exchange-requires
 narrow-exchange-requires c κs = search needs
 
 put-answer-requires : tie.Need-put-answer-requires
-put-answer-requires c κs = search (recordLaws, needs)
+put-answer-requires c κs = search (roomLaws, needs)
 
 same-length : tie.Need-same-length
 same-length c = search needs

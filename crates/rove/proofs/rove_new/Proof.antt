@@ -1,6 +1,6 @@
 -- `rove::rove_new` meets its contract. Assumes nothing.
 use borrow.Author.Needs.{needs}
-use Rattle.record.specs.RecordLaws.{recordLaws}
+use Rattle.record.specs.RoomLaws.{roomLaws}
 use Rattle.rove.proofs.ExportLaws.{treeLaws}
 use Rattle.rove.proofs.rove_new.Statement.{statement}
 use Rattle.rove.proofs.rove_new.Tie as tie
@@ -12,7 +12,7 @@ new-requires : tie.Need-new-requires
 new-requires c κs = search needs
 
 put-rooted-requires : tie.Need-put-rooted-requires
-put-rooted-requires c κs = search (recordLaws, needs)
+put-rooted-requires c κs = search (roomLaws, needs)
 
 same-length : tie.Need-same-length
 same-length c = search needs

@@ -1,6 +1,6 @@
 -- `rove::rove_next_u64` meets its contract. Assumes nothing.
 use borrow.Author.Needs.{needs}
-use Rattle.record.specs.RecordLaws.{recordLaws}
+use Rattle.record.specs.RoomLaws.{roomLaws}
 use Rattle.rove.proofs.ExportLaws.{drawLaws}
 use Rattle.rove.proofs.rove_next_u64.Statement.{statement}
 use Rattle.rove.proofs.rove_next_u64.Tie as tie
@@ -15,10 +15,10 @@ next-u64-requires : tie.Need-next-u64-requires
 next-u64-requires c κs = search needs
 
 put-generator-requires : tie.Need-put-generator-requires
-put-generator-requires c κs = search (recordLaws, needs)
+put-generator-requires c κs = search (roomLaws, needs)
 
 put-given-requires : tie.Need-put-given-requires
-put-given-requires c κs = search (recordLaws, needs)
+put-given-requires c κs = search (roomLaws, needs)
 
 same-length : tie.Need-same-length
 same-length c = search needs

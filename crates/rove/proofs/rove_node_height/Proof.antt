@@ -1,6 +1,6 @@
 -- `rove::rove_node_height` meets its contract. Assumes nothing.
 use borrow.Author.Needs.{needs}
-use Rattle.record.specs.RecordLaws.{recordLaws}
+use Rattle.record.specs.RoomLaws.{roomLaws}
 use Rattle.rove.proofs.ExportLaws.{moveLaws}
 use Rattle.rove.proofs.rove_node_height.Statement.{statement}
 use Rattle.rove.proofs.rove_node_height.Tie as tie
@@ -15,7 +15,7 @@ node-height-requires : tie.Need-node-height-requires
 node-height-requires c κs = search needs
 
 put-answer-requires : tie.Need-put-answer-requires
-put-answer-requires c κs = search (recordLaws, needs)
+put-answer-requires c κs = search (roomLaws, needs)
 
 same-length : tie.Need-same-length
 same-length c = search needs

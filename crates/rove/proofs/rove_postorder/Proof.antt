@@ -1,6 +1,6 @@
 -- `rove::rove_postorder` meets its contract. Assumes nothing.
 use borrow.Author.Needs.{needs}
-use Rattle.record.specs.RecordLaws.{recordLaws}
+use Rattle.record.specs.RoomLaws.{roomLaws}
 use Rattle.rove.proofs.ExportLaws.{treeLaws}
 use Rattle.rove.proofs.rove_postorder.Statement.{statement}
 use Rattle.rove.proofs.rove_postorder.Tie as tie
@@ -15,7 +15,7 @@ postorder-requires : tie.Need-postorder-requires
 postorder-requires c κs = search needs
 
 put-verdict-requires : tie.Need-put-verdict-requires
-put-verdict-requires c κs = search (recordLaws, needs)
+put-verdict-requires c κs = search (roomLaws, needs)
 
 same-length : tie.Need-same-length
 same-length c = search needs

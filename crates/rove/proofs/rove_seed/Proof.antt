@@ -1,6 +1,6 @@
 -- `rove::rove_seed` meets its contract. Assumes nothing.
 use borrow.Author.Needs.{needs}
-use Rattle.record.specs.RecordLaws.{recordLaws}
+use Rattle.record.specs.RoomLaws.{roomLaws}
 use Rattle.rove.proofs.ExportLaws.{drawLaws}
 use Rattle.rove.proofs.rove_seed.Statement.{statement}
 use Rattle.rove.proofs.rove_seed.Tie as tie
@@ -12,7 +12,7 @@ new-requires : tie.Need-new-requires
 new-requires c κs = search needs
 
 put-generator-requires : tie.Need-put-generator-requires
-put-generator-requires c κs = search (recordLaws, needs)
+put-generator-requires c κs = search (roomLaws, needs)
 
 same-length : tie.Need-same-length
 same-length c = search needs

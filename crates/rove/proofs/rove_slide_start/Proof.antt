@@ -1,6 +1,6 @@
 -- `rove::rove_slide_start` meets its contract. Assumes nothing.
 use borrow.Author.Needs.{needs}
-use Rattle.record.specs.RecordLaws.{recordLaws}
+use Rattle.record.specs.RoomLaws.{roomLaws}
 use Rattle.rove.proofs.ExportLaws.{moveLaws}
 use Rattle.rove.proofs.rove_slide_start.Statement.{statement}
 use Rattle.rove.proofs.rove_slide_start.Tie as tie
@@ -15,7 +15,7 @@ slide-start-requires : tie.Need-slide-start-requires
 slide-start-requires c κs = search needs
 
 put-started-requires : tie.Need-put-started-requires
-put-started-requires c κs = search (recordLaws, needs)
+put-started-requires c κs = search (roomLaws, needs)
 
 same-length : tie.Need-same-length
 same-length c = search needs

@@ -1,6 +1,6 @@
 -- `rove::rove_subtree_slide` meets its contract. Assumes nothing.
 use borrow.Author.Needs.{needs}
-use Rattle.record.specs.RecordLaws.{recordLaws}
+use Rattle.record.specs.RoomLaws.{roomLaws}
 use Rattle.rove.proofs.ExportLaws.{moveLaws}
 use Rattle.rove.proofs.rove_subtree_slide.Statement.{statement}
 use Rattle.rove.proofs.rove_subtree_slide.Tie as tie
@@ -21,7 +21,7 @@ subtree-slide-requires : tie.Need-subtree-slide-requires
 subtree-slide-requires c κs = search needs
 
 put-answer-requires : tie.Need-put-answer-requires
-put-answer-requires c κs = search (recordLaws, needs)
+put-answer-requires c κs = search (roomLaws, needs)
 
 same-length : tie.Need-same-length
 same-length c = search needs

@@ -1,6 +1,6 @@
 -- `rove::rove_tree_scale` meets its contract. Assumes nothing.
 use borrow.Author.Needs.{needs}
-use Rattle.record.specs.RecordLaws.{recordLaws}
+use Rattle.record.specs.RoomLaws.{roomLaws}
 use Rattle.rove.proofs.ExportLaws.{moveLaws}
 use Rattle.rove.proofs.rove_tree_scale.Statement.{statement}
 use Rattle.rove.proofs.rove_tree_scale.Tie as tie
@@ -18,7 +18,7 @@ tree-scale-requires : tie.Need-tree-scale-requires
 tree-scale-requires c κs = search needs
 
 put-answer-requires : tie.Need-put-answer-requires
-put-answer-requires c κs = search (recordLaws, needs)
+put-answer-requires c κs = search (roomLaws, needs)
 
 same-length : tie.Need-same-length
 same-length c = search needs

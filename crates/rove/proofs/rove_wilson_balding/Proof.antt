@@ -1,6 +1,6 @@
 -- `rove::rove_wilson_balding` meets its contract. Assumes nothing.
 use borrow.Author.Needs.{needs}
-use Rattle.record.specs.RecordLaws.{recordLaws}
+use Rattle.record.specs.RoomLaws.{roomLaws}
 use Rattle.rove.proofs.ExportLaws.{moveLaws}
 use Rattle.rove.proofs.rove_wilson_balding.Statement.{statement}
 use Rattle.rove.proofs.rove_wilson_balding.Tie as tie
@@ -15,7 +15,7 @@ wilson-balding-requires : tie.Need-wilson-balding-requires
 wilson-balding-requires c κs = search needs
 
 put-answer-requires : tie.Need-put-answer-requires
-put-answer-requires c κs = search (recordLaws, needs)
+put-answer-requires c κs = search (roomLaws, needs)
 
 same-length : tie.Need-same-length
 same-length c = search needs

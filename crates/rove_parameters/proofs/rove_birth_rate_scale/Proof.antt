@@ -1,5 +1,6 @@
 -- `rove_parameters::rove_birth_rate_scale` meets its contract. Assumes nothing.
 use borrow.Author.Needs.{needs}
+use Rattle.record.specs.RoomLaws.{roomLaws}
 use Rattle.rove_parameters.proofs.ProposalLaws.{proposalLaws}
 use Rattle.rove_parameters.proofs.RecordLaws.{recordLaws}
 use Rattle.rove_parameters.proofs.rove_birth_rate_scale.Statement.{statement}
@@ -27,7 +28,7 @@ birth-rate-scale-requires : tie.Need-birth-rate-scale-requires
 birth-rate-scale-requires c κs = search needs
 
 put-speciation-scaled-requires : tie.Need-put-speciation-scaled-requires
-put-speciation-scaled-requires c κs = search needs
+put-speciation-scaled-requires c κs = search (roomLaws, needs)
 
 same-length : tie.Need-same-length
 same-length c = search needs

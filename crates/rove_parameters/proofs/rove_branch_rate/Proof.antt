@@ -1,5 +1,6 @@
 -- `rove_parameters::rove_branch_rate` meets its contract. Assumes nothing.
 use borrow.Author.Needs.{needs}
+use Rattle.record.specs.RoomLaws.{roomLaws}
 use Rattle.rove_parameters.proofs.AskLaws.{clockLaws}
 use Rattle.rove_parameters.proofs.RecordLaws.{recordLaws}
 use Rattle.rove_parameters.proofs.rove_branch_rate.Statement.{statement}
@@ -21,7 +22,7 @@ branch-rate-requires : tie.Need-branch-rate-requires
 branch-rate-requires c κs = search needs
 
 put-rate-requires : tie.Need-put-rate-requires
-put-rate-requires c κs = search needs
+put-rate-requires c κs = search (roomLaws, needs)
 
 same-length : tie.Need-same-length
 same-length c = search needs

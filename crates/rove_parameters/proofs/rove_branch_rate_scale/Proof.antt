@@ -1,5 +1,6 @@
 -- `rove_parameters::rove_branch_rate_scale` meets its contract. Assumes nothing.
 use borrow.Author.Needs.{needs}
+use Rattle.record.specs.RoomLaws.{roomLaws}
 use Rattle.rove_parameters.proofs.ProposalLaws.{proposalLaws}
 use Rattle.rove_parameters.proofs.RecordLaws.{recordLaws}
 use Rattle.rove_parameters.proofs.rove_branch_rate_scale.Statement.{statement}
@@ -24,7 +25,7 @@ branch-rate-scale-requires : tie.Need-branch-rate-scale-requires
 branch-rate-scale-requires c κs = search needs
 
 put-proposal-requires : tie.Need-put-proposal-requires
-put-proposal-requires c κs = search needs
+put-proposal-requires c κs = search (roomLaws, needs)
 
 same-length : tie.Need-same-length
 same-length c = search needs

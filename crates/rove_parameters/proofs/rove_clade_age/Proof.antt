@@ -1,5 +1,6 @@
 -- `rove_parameters::rove_clade_age` meets its contract. Assumes nothing.
 use borrow.Author.Needs.{needs}
+use Rattle.record.specs.RoomLaws.{roomLaws}
 use Rattle.rove_parameters.proofs.AskLaws.{treeLaws}
 use Rattle.rove_parameters.proofs.RecordLaws.{recordLaws}
 use Rattle.rove_parameters.proofs.rove_clade_age.Statement.{statement}
@@ -15,7 +16,7 @@ clade-age-requires : tie.Need-clade-age-requires
 clade-age-requires c κs = search needs
 
 put-age-requires : tie.Need-put-age-requires
-put-age-requires c κs = search needs
+put-age-requires c κs = search (roomLaws, needs)
 
 same-length : tie.Need-same-length
 same-length c = search needs

@@ -1,5 +1,6 @@
 -- `rove_parameters::rove_clock_sigma_scale` meets its contract. Assumes nothing.
 use borrow.Author.Needs.{needs}
+use Rattle.record.specs.RoomLaws.{roomLaws}
 use Rattle.rove_parameters.proofs.ProposalLaws.{proposalLaws}
 use Rattle.rove_parameters.proofs.RecordLaws.{recordLaws}
 use Rattle.rove_parameters.proofs.rove_clock_sigma_scale.Statement.{statement}
@@ -24,7 +25,7 @@ clock-sigma-scale-requires : tie.Need-clock-sigma-scale-requires
 clock-sigma-scale-requires c κs = search needs
 
 put-optional-scaled-requires : tie.Need-put-optional-scaled-requires
-put-optional-scaled-requires c κs = search needs
+put-optional-scaled-requires c κs = search (roomLaws, needs)
 
 same-length : tie.Need-same-length
 same-length c = search needs

@@ -1,5 +1,6 @@
 -- `rove_parameters::rove_fbd_scale` meets its contract. Assumes nothing.
 use borrow.Author.Needs.{needs}
+use Rattle.record.specs.RoomLaws.{roomLaws}
 use Rattle.rove_parameters.proofs.ProposalLaws.{proposalLaws}
 use Rattle.rove_parameters.proofs.RecordLaws.{recordLaws}
 use Rattle.rove_parameters.proofs.rove_fbd_scale.Statement.{statement}
@@ -15,7 +16,7 @@ enum-known-field : tie.Need-enum-known-field
 enum-known-field c = search needs
 
 field-scale-requires : tie.Need-field-scale-requires
-field-scale-requires c κs = search needs
+field-scale-requires c κs = search (roomLaws, needs)
 
 same-length : tie.Need-same-length
 same-length c = search needs
@@ -27,7 +28,7 @@ enum-told : tie.Need-enum-told
 enum-told c = search needs
 
 put-refusal-requires : tie.Need-put-refusal-requires
-put-refusal-requires c κs = search needs
+put-refusal-requires c κs = search (roomLaws, needs)
 
 same-length-2 : tie.Need-same-length-2
 same-length-2 c = search needs

@@ -1,5 +1,6 @@
 -- `rove_parameters::rove_initialize` meets its contract. Assumes nothing.
 use borrow.Author.Needs.{needs}
+use Rattle.record.specs.RoomLaws.{roomLaws}
 use Rattle.rove_parameters.proofs.AskLaws.{treeLaws}
 use Rattle.rove_parameters.proofs.rove_initialize.Statement.{statement}
 use Rattle.rove_parameters.proofs.rove_initialize.Tie as tie
@@ -17,7 +18,7 @@ initialize-requires : tie.Need-initialize-requires
 initialize-requires c κs = search needs
 
 put-verdict-requires : tie.Need-put-verdict-requires
-put-verdict-requires c κs = search needs
+put-verdict-requires c κs = search (roomLaws, needs)
 
 same-length : tie.Need-same-length
 same-length c = search needs

@@ -1,5 +1,6 @@
 -- `rove_parameters::rove_is_monophyletic` meets its contract. Assumes nothing.
 use borrow.Author.Needs.{needs}
+use Rattle.record.specs.RoomLaws.{roomLaws}
 use Rattle.rove_parameters.proofs.AskLaws.{treeLaws}
 use Rattle.rove_parameters.proofs.RecordLaws.{recordLaws}
 use Rattle.rove_parameters.proofs.rove_is_monophyletic.Statement.{statement}
@@ -15,7 +16,7 @@ is-monophyletic-requires : tie.Need-is-monophyletic-requires
 is-monophyletic-requires c κs = search needs
 
 put-monophyly-requires : tie.Need-put-monophyly-requires
-put-monophyly-requires c κs = search needs
+put-monophyly-requires c κs = search (roomLaws, needs)
 
 same-length : tie.Need-same-length
 same-length c = search needs

@@ -1,5 +1,6 @@
 -- `rove_parameters::rove_propose_age` meets its contract. Assumes nothing.
 use borrow.Author.Needs.{needs}
+use Rattle.record.specs.RoomLaws.{recorded}
 use Rattle.rove_parameters.proofs.AskLaws.{treeLaws}
 use Rattle.rove_parameters.proofs.rove_propose_age.Statement.{statement}
 use Rattle.rove_parameters.proofs.rove_propose_age.Tie as tie
@@ -23,7 +24,7 @@ propose-age-requires : tie.Need-propose-age-requires
 propose-age-requires c κs = search needs
 
 put-answer-requires : tie.Need-put-answer-requires
-put-answer-requires c κs = search needs
+put-answer-requires c κs = recorded (c .before .before .before .before .before .before .before .before .before .before .before .before .before .before .before .before .before .before .before .before .before .before .args .words .now) _ (c .before .before .before .before .before .before .before .before .before .before .before .before .before .before .is-record .ensures) (c .before .before .before .before .before .before .before .before .before .before .before .before .before .if1 .taken)
 
 same-length : tie.Need-same-length
 same-length c = search needs

@@ -1,5 +1,6 @@
 -- `rove_parameters::rove_scale` meets its contract. Assumes nothing.
 use borrow.Author.Needs.{needs}
+use Rattle.record.specs.RoomLaws.{roomLaws}
 use Rattle.rove_parameters.proofs.ProposalLaws.{proposalLaws}
 use Rattle.rove_parameters.proofs.RecordLaws.{recordLaws}
 use Rattle.rove_parameters.proofs.rove_scale.Statement.{statement}
@@ -27,7 +28,7 @@ scale-requires : tie.Need-scale-requires
 scale-requires c κs = search needs
 
 put-scaled-requires : tie.Need-put-scaled-requires
-put-scaled-requires c κs = search needs
+put-scaled-requires c κs = search (roomLaws, needs)
 
 same-length : tie.Need-same-length
 same-length c = search needs

@@ -1,5 +1,6 @@
 -- `rove_parameters::rove_set_rate` meets its contract. Assumes nothing.
 use borrow.Author.Needs.{needs}
+use Rattle.record.specs.RoomLaws.{roomLaws}
 use Rattle.rove_parameters.proofs.AskLaws.{clockLaws}
 use Rattle.rove_parameters.proofs.RecordLaws.{recordLaws}
 use Rattle.rove_parameters.proofs.rove_set_rate.Statement.{statement}
@@ -21,7 +22,7 @@ set-rate-requires : tie.Need-set-rate-requires
 set-rate-requires c κs = search needs
 
 put-stored-requires : tie.Need-put-stored-requires
-put-stored-requires c κs = search needs
+put-stored-requires c κs = search (roomLaws, needs)
 
 same-length : tie.Need-same-length
 same-length c = search needs

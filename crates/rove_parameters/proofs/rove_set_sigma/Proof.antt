@@ -1,5 +1,6 @@
 -- `rove_parameters::rove_set_sigma` meets its contract. Assumes nothing.
 use borrow.Author.Needs.{needs}
+use Rattle.record.specs.RoomLaws.{roomLaws}
 use Rattle.rove_parameters.proofs.AskLaws.{clockLaws}
 use Rattle.rove_parameters.proofs.RecordLaws.{recordLaws}
 use Rattle.rove_parameters.proofs.rove_set_sigma.Statement.{statement}
@@ -18,7 +19,7 @@ set-sigma-requires : tie.Need-set-sigma-requires
 set-sigma-requires c κs = search needs
 
 put-sigma-requires : tie.Need-put-sigma-requires
-put-sigma-requires c κs = search needs
+put-sigma-requires c κs = search (roomLaws, needs)
 
 same-length : tie.Need-same-length
 same-length c = search needs

@@ -1,5 +1,6 @@
 -- `rove_parameters::rove_yule_log_density` meets its contract. Assumes nothing.
 use borrow.Author.Needs.{needs}
+use Rattle.record.specs.RoomLaws.{roomLaws}
 use Rattle.rove_parameters.proofs.AskLaws.{treeLaws}
 use Rattle.rove_parameters.proofs.RecordLaws.{recordLaws}
 use Rattle.rove_parameters.proofs.rove_yule_log_density.Statement.{statement}
@@ -18,7 +19,7 @@ yule-log-density-requires : tie.Need-yule-log-density-requires
 yule-log-density-requires c κs = search needs
 
 put-density-requires : tie.Need-put-density-requires
-put-density-requires c κs = search needs
+put-density-requires c κs = search (roomLaws, needs)
 
 same-length : tie.Need-same-length
 same-length c = search needs

@@ -1,6 +1,6 @@
 -- `rove_unvalidated::rove_slide_start_unvalidated` meets its contract. Assumes nothing.
 use borrow.Author.Needs.{needs}
-use Rattle.record.specs.RecordLaws.{recordLaws}
+use Rattle.record.specs.RoomLaws.{roomLaws}
 use Rattle.rove_unvalidated.proofs.UnvalidatedLaws.{moveLaws}
 use Rattle.rove_unvalidated.proofs.rove_slide_start_unvalidated.Statement.{statement}
 use Rattle.rove_unvalidated.proofs.rove_slide_start_unvalidated.Tie as tie
@@ -15,7 +15,7 @@ slide-start-unvalidated-requires : tie.Need-slide-start-unvalidated-requires
 slide-start-unvalidated-requires c κs = search needs
 
 put-started-requires : tie.Need-put-started-requires
-put-started-requires c κs = search (recordLaws, needs)
+put-started-requires c κs = search (roomLaws, needs)
 
 same-length : tie.Need-same-length
 same-length c = search needs

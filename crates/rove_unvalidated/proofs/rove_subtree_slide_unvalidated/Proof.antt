@@ -1,6 +1,6 @@
 -- `rove_unvalidated::rove_subtree_slide_unvalidated` meets its contract. Assumes nothing.
 use borrow.Author.Needs.{needs}
-use Rattle.record.specs.RecordLaws.{recordLaws}
+use Rattle.record.specs.RoomLaws.{roomLaws}
 use Rattle.rove_unvalidated.proofs.UnvalidatedLaws.{moveLaws}
 use Rattle.rove_unvalidated.proofs.rove_subtree_slide_unvalidated.Statement.{statement}
 use Rattle.rove_unvalidated.proofs.rove_subtree_slide_unvalidated.Tie as tie
@@ -21,7 +21,7 @@ subtree-slide-unvalidated-requires : tie.Need-subtree-slide-unvalidated-requires
 subtree-slide-unvalidated-requires c κs = search needs
 
 put-answer-requires : tie.Need-put-answer-requires
-put-answer-requires c κs = search (recordLaws, needs)
+put-answer-requires c κs = search (roomLaws, needs)
 
 same-length : tie.Need-same-length
 same-length c = search needs

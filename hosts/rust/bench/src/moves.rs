@@ -5,6 +5,8 @@ use crate::rounds::{Way, line, medians};
 use cases::{Chance, Kind, Sample};
 use reference::mcmc::Move;
 use reference::random::Random;
+use reference::rates::RateVariation;
+use reference::speciation::SpeciationState;
 use rove::{Answer, Generator, Tree};
 use std::hint::black_box;
 
@@ -58,12 +60,23 @@ fn rust_way(kind: Kind, mut tree: reference::tree::Tree, times: usize, validate:
         Kind::RootScale => (Move::RootScale, 0.75),
         Kind::TreeScale => (Move::TreeScale, 0.75),
     };
+    let (mut speciation, mut rates) = (SpeciationState::Yule { birth_rate: 1.0 }, RateVariation::default());
     Box::new(move || {
         for _ in 0..times {
             if validate {
                 black_box(tree.validate().is_ok());
             }
-            black_box(reference::propose(kind, &mut tree, tuning, &mut random));
+            let (speciation, rates) = (&mut speciation, &mut rates);
+            let upper = f64::MAX;
+            black_box(reference::propose_parameter(
+                kind,
+                &mut tree,
+                speciation,
+                rates,
+                upper,
+                tuning,
+                &mut random,
+            ));
         }
     })
 }

@@ -67,7 +67,7 @@ fn scale(times: usize) -> Vec<Way<'static>> {
     vec![
         way(times, || (1.0, random()), rust),
         way(times, || (1.0, random()), rust),
-        way(times, || (1.0, Generator(STATE)), port),
+        way(times, || (1.0, Generator::from_state(STATE)), port),
     ]
 }
 
@@ -94,7 +94,7 @@ fn fbd(times: usize) -> Vec<Way<'static>> {
     vec![
         way(times, move || (process, priors, random()), rust),
         way(times, move || (process, priors, random()), checked),
-        way(times, move || (port_process(process), ours, Generator(STATE)), port),
+        way(times, move || (port_process(process), ours, Generator::from_state(STATE)), port),
     ]
 }
 
@@ -126,7 +126,11 @@ fn branch_rate(count: usize, times: usize) -> Vec<Way<'static>> {
     vec![
         way(times, made, propose),
         way(times, made, checked),
-        way(times, move || (Clock { sigma: 0.5, rates: vec![1.0; count] }, Generator(STATE)), port),
+        way(
+            times,
+            move || (Clock { sigma: 0.5, rates: vec![1.0; count] }, Generator::from_state(STATE)),
+            port,
+        ),
     ]
 }
 
@@ -150,7 +154,7 @@ fn port_dated(tips: usize) -> Ours {
     let sample = Sample::plain(&mut Chance::new(7), tips);
     let (_, dating, _) = rust_dated(tips);
     let (minima, maxima) = dating.ages.iter().map(|age| (age.minimum, age.maximum)).unzip();
-    (port_tree(&sample), Ages { minima, maxima }, port_process(dating.process), Generator(STATE))
+    (port_tree(&sample), Ages { minima, maxima }, port_process(dating.process), Generator::from_state(STATE))
 }
 
 fn check((tree, dating, _): &Given) {

@@ -6,7 +6,7 @@ use crate::plain::{bits, children, same_float, same_floats, shown};
 use crate::trees::{Called, answered, called, stepped};
 use crate::wrong::{judged, wrong_tree};
 use cases::Chance;
-use rove::{Generator, Record, Refusal, Tree, exports, word};
+use rove::{Record, Refusal, Tree, exports, word};
 use scripted::dating::{Dating, FossilizedBirthDeath, TipAge};
 use scripted::random::Random;
 
@@ -178,7 +178,7 @@ pub fn propose_age(chance: &mut Chance) -> Compared<&'static str> {
 fn aged(call: &Called, tree: &Tree, ages: &[TipAge]) -> Result<Aged, Refusal> {
     let mut rust = checked(call, tree, ages)?;
     let process = process(&call.before);
-    let (Generator(from), allowance) = (call.before.generator(), call.before.0[word::ALLOWANCE]);
+    let (from, allowance) = (call.before.state(), call.before.0[word::ALLOWANCE]);
     if !(process_finite(&process) && allowed(allowance)) {
         return Err(Refusal::Parameter(0));
     }

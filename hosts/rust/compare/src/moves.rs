@@ -4,8 +4,7 @@
 use crate::files;
 use crate::oracle::{self, Call, Compared, Outcome, logarithm, rust_move};
 use crate::plain::{
-    children, draws, generator, plain, port_tree, random, rust_tree, same_as_rust, same_float, same_tree,
-    shown,
+    children, draws, plain, port_tree, random, rust_tree, same_as_rust, same_float, same_tree, shown,
 };
 use crate::port::{self, Way};
 use crate::ratio::Change;
@@ -13,7 +12,7 @@ use crate::tally::{Tally, refused};
 use crate::wrong::{judged, wrong_tree};
 use cases::{Chance, Kind, Sample, shapes};
 use reference::random::Random;
-use rove::{Answer, Generator, Refusal, Tree};
+use rove::{Answer, Refusal, Tree};
 
 /// More than any call makes.
 const MANY: u64 = 1 << 20;
@@ -96,14 +95,14 @@ impl Chain {
         let size = self.size(chance);
         let mut made = self.rust_made(Kind::SubtreeSlide, size, state);
         let way = Way::any(chance);
-        let (started, Generator(next)) = port::slide_start(chance, way, &self.port, state, 65_535)?;
+        let (started, next) = port::slide_start(chance, way, &self.port, state, 65_535)?;
         let started = started.map_err(|why| self.report("slide_start", &format!("{why}")))?;
         let most = started.draws;
         if draws(state, next, most) != Some(most) || made.draws < most {
             return Err(self.report("slide_start", &format!("{started:?}, generator {next:x?}")));
         }
         if most > 1 && chance.once_in(4) {
-            let (short, Generator(kept)) = port::slide_start(chance, way, &self.port, state, most - 1)?;
+            let (short, kept) = port::slide_start(chance, way, &self.port, state, most - 1)?;
             if short != Err(Refusal::Allowance(most - 1)) || kept != state {
                 return Err(self.report("slide_start, one draw short", &format!("{short:?}")));
             }
@@ -134,7 +133,7 @@ impl Chain {
             call.allowance = made.draws - 1;
             let (answer, kept) = port::call(chance, way, &call, &mut self.port)?;
             let right = answer == Answer::Refused(Refusal::Allowance(call.allowance));
-            if !right || kept.0 != call.state || !same_tree(&self.port, &self.before) {
+            if !right || kept != call.state || !same_tree(&self.port, &self.before) {
                 return Err(self.report(&format!("{:?}, one draw short", call.kind), &format!("{answer:?}")));
             }
             self.short += 1;
@@ -153,7 +152,7 @@ impl Chain {
             );
             self.report(
                 &format!("{:?}: {what}; {told}", call.kind),
-                &format!("{answer:?}, generator {:x?}", given.0),
+                &format!("{answer:?}, generator {:x?}", given),
             )
         })
     }
@@ -176,18 +175,17 @@ impl Chain {
         call: &Call,
         made: &Made,
         answer: Answer,
-        given: Generator,
+        given: [u64; 4],
         expected: Option<Refusal>,
     ) -> Result<&'static str, &'static str> {
         if let Some(why) = expected {
-            if answer != Answer::Refused(why) || given.0 != call.state || !same_tree(&self.port, &self.before)
-            {
+            if answer != Answer::Refused(why) || given != call.state || !same_tree(&self.port, &self.before) {
                 return Err("this should be refused and change nothing");
             }
             self.restore(call.state);
             return Ok(refused(why.number()));
         }
-        if given.0 != made.state {
+        if given != made.state {
             return Err("the generators differ");
         }
         if !same_as_rust(&self.port, &self.rust) {
@@ -241,7 +239,7 @@ impl Chain {
         let mut tree = self.port.clone();
         let (answer, given) = port::call(chance, Way::CHECKED, &call, &mut tree)?;
         let right = answer == Answer::Refused(Refusal::Height(tip as u64));
-        if right && given.0 == call.state && same_tree(&tree, &self.port) {
+        if right && given == call.state && same_tree(&tree, &self.port) {
             return Ok(true);
         }
         Err(self.report("a tip above its parent should be refused with 4", &format!("{answer:?}")))
@@ -250,11 +248,11 @@ impl Chain {
     /// A difference in full.
     fn report(&self, what: &str, answer: &str) -> String {
         let rust = plain(&self.rust);
-        let state = generator(&self.random);
+        let state = reference::state(&self.random);
         format!(
             "the moves differ: {what}\nbefore: {}\nthe Rust: generator {:x?}, {}\nthe port: {answer}, {}",
             shown(&self.before),
-            state.0,
+            state,
             shown(&rust),
             shown(&self.port)
         )
@@ -270,13 +268,13 @@ fn single(chance: &mut Chance) -> Compared<&'static str> {
     let expected = outcome(&call, &before)?;
     let right = match (&expected, answer) {
         (Outcome::Refused(why), Answer::Refused(refusal)) => {
-            *why == refusal && given.0 == call.state && same_tree(&tree, &before)
+            *why == refusal && given == call.state && same_tree(&tree, &before)
         }
         (Outcome::Declined { draws, state }, Answer::Declined(made)) => {
-            *draws == made && given.0 == *state && same_tree(&tree, &before)
+            *draws == made && given == *state && same_tree(&tree, &before)
         }
         (Outcome::Moved { draws, state, ratio, tree: after }, Answer::Moved(moved)) => {
-            *draws == moved.draws && given.0 == *state && *ratio == moved.ratio && same_tree(&tree, after)
+            *draws == moved.draws && given == *state && *ratio == moved.ratio && same_tree(&tree, after)
         }
         _ => false,
     };
@@ -290,7 +288,7 @@ fn single(chance: &mut Chance) -> Compared<&'static str> {
             call.node,
             call.tuning.to_bits(),
             shown(&before),
-            given.0,
+            given,
             shown(&tree)
         ));
     }

@@ -7,7 +7,7 @@ use crate::port::noisy;
 use crate::tally::Tally;
 use crate::trees::{Called, answered, called, stepped};
 use cases::Chance;
-use rove::{Generator, Record, Refusal, exports, word};
+use rove::{Record, Refusal, exports, word};
 use scripted::dating::{FossilizedBirthDeath, ProcessPriors};
 use scripted::mcmc::Move;
 use scripted::random::Random;
@@ -57,7 +57,7 @@ pub fn drawing(chance: &mut Chance) -> Record {
     let state = if chance.once_in(32) { [0; 4] } else { chance.state() };
     let allowance =
         if chance.once_in(8) { chance.pick(&[0, 1, 1, 2, 65_536, u64::MAX, (1 << 32) + 1]) } else { 65_535 };
-    let mut record = noisy(chance, Generator(state), 0, allowance);
+    let mut record = noisy(chance, state, 0, allowance);
     let tuning = if chance.once_in(8) { chance.float() } else { crate::files::tuning(chance) };
     record.set_float(word::TUNING, tuning);
     record
@@ -117,7 +117,7 @@ fn proposed(
     limits: bool,
     run: impl FnOnce(f64, &mut Random) -> Option<f64>,
 ) -> Compared<Ended> {
-    let (Generator(from), allowance) = (record.generator(), record.0[word::ALLOWANCE]);
+    let (from, allowance) = (record.state(), record.0[word::ALLOWANCE]);
     let tuning = record.float(word::TUNING);
     if !(limits && tuned(tuning) && allowed(allowance)) {
         return Ok(Ended::Refused(Refusal::Parameter(0)));

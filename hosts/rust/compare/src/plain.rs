@@ -2,7 +2,7 @@
 
 use cases::Sample;
 use reference::random::Random;
-use rove::{Generator, Tree};
+use rove::Tree;
 
 const NONE: u16 = 65_535;
 
@@ -76,10 +76,6 @@ pub fn same_float(a: f64, b: f64) -> bool {
 /// The Rust's generator of four words that are not all zero.
 pub fn random(state: [u64; 4]) -> Random {
     reference::from_state(state).expect("words that are not all zero")
-}
-
-pub fn generator(random: &Random) -> Generator {
-    Generator(reference::state(random))
 }
 
 /// The draws that lead from one state to another, where there are no more than so many.

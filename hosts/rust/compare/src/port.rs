@@ -22,22 +22,22 @@ impl Way {
 }
 
 /// A record of noise, with a generator, a root and an allowance.
-pub fn noisy(chance: &mut Chance, generator: Generator, root: usize, allowance: u64) -> Record {
+pub fn noisy(chance: &mut Chance, state: [u64; 4], root: usize, allowance: u64) -> Record {
     let mut record = Record(chance.words::<WORDS>());
-    record.0[..4].copy_from_slice(&generator.0);
+    record.set_state(state);
     record.set_index(word::ROOT, root);
     record.set(word::ALLOWANCE, allowance);
     record
 }
 
-/// A tree move, which changes the tree and the generator as the port says.
-pub fn call(chance: &mut Chance, way: Way, call: &Call, tree: &mut Tree) -> Compared<(Answer, Generator)> {
-    let mut generator = Generator(call.state);
+/// A tree move, which changes the tree as the port says, and the generator's words afterwards.
+pub fn call(chance: &mut Chance, way: Way, call: &Call, tree: &mut Tree) -> Compared<(Answer, [u64; 4])> {
     if !way.record {
+        let mut generator = Generator::from_state(call.state);
         let answer = typed(way.unvalidated, call, tree, &mut generator);
-        return Ok((answer, generator));
+        return Ok((answer, generator.state()));
     }
-    let mut record = noisy(chance, generator, tree.root, call.allowance);
+    let mut record = noisy(chance, call.state, tree.root, call.allowance);
     if call.kind.uses_node() {
         record.set(word::NODE, call.node);
     }
@@ -48,7 +48,7 @@ pub fn call(chance: &mut Chance, way: Way, call: &Call, tree: &mut Tree) -> Comp
     let code = recorded(way.unvalidated, call.kind, tree, &mut record.0);
     kept(code, &before, &record, &[])?;
     tree.root = record.0[word::ROOT] as usize;
-    Ok((record.answer(code), record.generator()))
+    Ok((record.answer(code), record.state()))
 }
 
 fn typed(unvalidated: bool, call: &Call, tree: &mut Tree, generator: &mut Generator) -> Answer {
@@ -102,17 +102,17 @@ pub fn slide_start(
     tree: &Tree,
     state: [u64; 4],
     allowance: u64,
-) -> Compared<(Result<Started, Refusal>, Generator)> {
-    let mut generator = Generator(state);
+) -> Compared<(Result<Started, Refusal>, [u64; 4])> {
     if !way.record {
+        let mut generator = Generator::from_state(state);
         let started = if way.unvalidated {
             tree.slide_start_unvalidated(&mut generator, allowance)
         } else {
             tree.slide_start(&mut generator, allowance)
         };
-        return Ok((started, generator));
+        return Ok((started, generator.state()));
     }
-    let mut record = noisy(chance, generator, tree.root, allowance);
+    let mut record = noisy(chance, state, tree.root, allowance);
     let before = record.clone();
     let start =
         if way.unvalidated { exports::rove_slide_start_unvalidated } else { exports::rove_slide_start };
@@ -121,7 +121,7 @@ pub fn slide_start(
     let uniforms = [record.float(word::FIRST), record.float(word::SECOND)];
     let (node, draws) = (record.0[word::NODE] as usize, record.0[word::DRAWS]);
     let started = record.verdict(code).map(|()| Started { node, uniforms, draws });
-    Ok((started, record.generator()))
+    Ok((started, record.state()))
 }
 
 /// That a call wrote no words but those it may: a refused one 8 to 12, a declined one the generator too, and one that is

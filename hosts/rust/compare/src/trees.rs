@@ -1,7 +1,7 @@
 //! The generator's own calls, and `new`, `validate` and `postorder` on trees that may be damaged.
 
 use crate::oracle::{self, Compared, allowed};
-use crate::plain::{children, draws, generator, mark, random, shown};
+use crate::plain::{children, draws, mark, random, shown};
 use crate::port::noisy;
 use crate::tally::{Tally, refused};
 use crate::wrong::{judged, wrong_tree};
@@ -88,10 +88,14 @@ pub fn stepped(state: [u64; 4]) -> [(usize, u64); 4] {
 fn seed(chance: &mut Chance) -> Compared<&'static str> {
     let seed = chance.pick(&[0, 1, u64::MAX, chance.clone().word()]);
     chance.word();
-    let expected = generator(&Random::new(seed));
+    let expected = reference::state(&Random::new(seed));
     let call = called(Record(chance.words()), |words| exports::rove_seed(seed, words));
-    call.is(0, &stepped(expected.0))?;
-    if Generator::new(seed) == expected { Ok("given") } else { Err(format!("seed {seed} by the wrapper")) }
+    call.is(0, &stepped(expected))?;
+    if Generator::new(seed).state() == expected {
+        Ok("given")
+    } else {
+        Err(format!("seed {seed} by the wrapper"))
+    }
 }
 
 fn state(chance: &mut Chance) -> [u64; 4] {
@@ -107,8 +111,8 @@ fn next_u64(chance: &mut Chance) -> Compared<&'static str> {
     let state = state(chance);
     let mut rust = random(state);
     let drawn = rust.next_u64();
-    let call = called(noisy(chance, Generator(state), 0, 0), exports::rove_next_u64);
-    let words = [&stepped(generator(&rust).0)[..], &answered(0, 1, 0, drawn, 0)].concat();
+    let call = called(noisy(chance, state, 0, 0), exports::rove_next_u64);
+    let words = [&stepped(reference::state(&rust))[..], &answered(0, 1, 0, drawn, 0)].concat();
     call.is(0, &words)?;
     Ok("given")
 }
@@ -131,7 +135,7 @@ fn below(chance: &mut Chance) -> Compared<&'static str> {
         any >> 53,
     ]);
     let allowance = chance.pick(&[0, 1, 2, 3, 65_535, 65_535, 65_536, u64::MAX]);
-    let mut record = noisy(chance, Generator(state), 0, allowance);
+    let mut record = noisy(chance, state, 0, allowance);
     record.set(word::NODE, n);
     let call = called(record, exports::rove_below);
     if !(1..=1 << 32).contains(&n) || !allowed(allowance) {
@@ -139,7 +143,7 @@ fn below(chance: &mut Chance) -> Compared<&'static str> {
     }
     let mut rust = random(state);
     let number = rust.below(n as usize);
-    let after = generator(&rust).0;
+    let after = reference::state(&rust);
     let Some(draws) = draws(state, after, allowance) else {
         return call.is_refused(Refusal::Allowance(allowance));
     };
@@ -175,7 +179,7 @@ fn made(tree: &Tree) -> Result<reference::tree::Tree, Refusal> {
 
 fn validate(chance: &mut Chance) -> Compared<&'static str> {
     let tree = wrong_tree(chance);
-    let record = noisy(chance, Generator([0; 4]), tree.root, 0);
+    let record = noisy(chance, [0; 4], tree.root, 0);
     let call =
         called(record, |words| exports::rove_validate(&tree.pairs, &tree.parents, &tree.heights, words));
     let result = match judged(&tree) {
@@ -190,7 +194,7 @@ fn postorder(chance: &mut Chance) -> Compared<&'static str> {
     let places = if chance.once_in(8) { chance.below(12) } else { tree.nodes() };
     let noise: Vec<u16> = (0..places).map(|_| chance.word() as u16).collect();
     let mut order = noise.clone();
-    let record = noisy(chance, Generator([0; 4]), tree.root, 0);
+    let record = noisy(chance, [0; 4], tree.root, 0);
     let call = called(record, |words| {
         exports::rove_postorder(&tree.pairs, &tree.parents, &tree.heights, &mut order, words)
     });

@@ -34,7 +34,7 @@ fn moved_in_memory() -> String {
     const NONE: u16 = 65_535;
     let pairs = vec![NONE, NONE, NONE, NONE, NONE, NONE, 0, 1, 3, 2];
     let mut tree = Tree::new(pairs, vec![0.0, 0.0, 0.0, 1.0, 2.0]).expect("a tree");
-    let mut generator = Generator([1, 2, 3, 4]);
+    let mut generator = Generator::from_state([1, 2, 3, 4]);
     let Answer::Moved(moved) = tree.root_scale(0.5, &mut generator, 9) else {
         panic!("the example moves");
     };

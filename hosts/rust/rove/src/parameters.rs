@@ -138,8 +138,9 @@ fn put_optional(record: &mut Record, place: usize, value: Option<f64>) {
     record.set_float(place + 1, value.unwrap_or(0.0));
 }
 
-fn scaling(tuning: f64, generator: Generator, allowance: u64) -> Record {
-    let mut record = Record::drawing(generator, allowance);
+/// The record of a call with a tuning, which may draw so often.
+fn scaling(tuning: f64, generator: &mut Generator, allowance: u64) -> &mut Record {
+    let record = generator.allowed(allowance);
     record.set_float(word::TUNING, tuning);
     record
 }
@@ -152,12 +153,11 @@ pub fn scale(
     generator: &mut Generator,
     allowance: u64,
 ) -> Proposal {
-    let mut record = scaling(tuning, *generator, allowance);
+    let record = scaling(tuning, generator, allowance);
     record.set_float(AT, *value);
     record.set_float(AT + 1, upper);
     let code = exports::rove_scale(&mut record.0);
     *value = record.float(AT);
-    *generator = record.generator();
     record.proposal(code)
 }
 
@@ -168,11 +168,10 @@ pub fn clock_rate_scale(
     generator: &mut Generator,
     allowance: u64,
 ) -> Proposal {
-    let mut record = scaling(tuning, *generator, allowance);
-    put_optional(&mut record, AT, *mean);
+    let record = scaling(tuning, generator, allowance);
+    put_optional(record, AT, *mean);
     let code = exports::rove_clock_rate_scale(&mut record.0);
     *mean = mean.map(|_| record.float(AT + 1));
-    *generator = record.generator();
     record.proposal(code)
 }
 
@@ -184,8 +183,8 @@ pub fn birth_difference_scale(
     generator: &mut Generator,
     allowance: u64,
 ) -> Proposal {
-    let record = scaling(tuning, *generator, allowance);
-    speciate(exports::rove_birth_difference_scale, speciation, upper, record, generator)
+    let record = scaling(tuning, generator, allowance);
+    speciate(exports::rove_birth_difference_scale, speciation, upper, record)
 }
 
 /// Scales the rate of a Yule process.
@@ -196,8 +195,8 @@ pub fn birth_rate_scale(
     generator: &mut Generator,
     allowance: u64,
 ) -> Proposal {
-    let record = scaling(tuning, *generator, allowance);
-    speciate(exports::rove_birth_rate_scale, speciation, upper, record, generator)
+    let record = scaling(tuning, generator, allowance);
+    speciate(exports::rove_birth_rate_scale, speciation, upper, record)
 }
 
 /// Scales the relative death rate of a birth–death process, up to 1.
@@ -207,8 +206,8 @@ pub fn relative_death_scale(
     generator: &mut Generator,
     allowance: u64,
 ) -> Proposal {
-    let record = scaling(tuning, *generator, allowance);
-    speciate(exports::rove_relative_death_scale, speciation, 0.0, record, generator)
+    let record = scaling(tuning, generator, allowance);
+    speciate(exports::rove_relative_death_scale, speciation, 0.0, record)
 }
 
 /// A call with a speciation state and an upper end in its record.
@@ -216,11 +215,13 @@ fn speciate(
     call: fn(&mut [u64]) -> u64,
     speciation: &mut Speciation,
     upper: f64,
-    mut record: Record,
-    generator: &mut Generator,
+    record: &mut Record,
 ) -> Proposal {
     match *speciation {
-        Speciation::Yule { birth_rate } => record.set_float(AT + 1, birth_rate),
+        Speciation::Yule { birth_rate } => {
+            record.set(AT, 0);
+            record.set_float(AT + 1, birth_rate);
+        }
         Speciation::BirthDeath { birth_difference, relative_death } => {
             record.set(AT, 1);
             record.set_float(AT + 1, birth_difference);
@@ -236,7 +237,6 @@ fn speciate(
             *relative_death = record.float(AT + 2);
         }
     }
-    *generator = record.generator();
     record.proposal(code)
 }
 
@@ -247,8 +247,8 @@ pub fn clock_sigma_scale(
     generator: &mut Generator,
     allowance: u64,
 ) -> Proposal {
-    let mut record = scaling(tuning, *generator, allowance);
-    put_optional(&mut record, AT, clock.as_ref().map(|clock| clock.sigma));
+    let record = scaling(tuning, generator, allowance);
+    put_optional(record, AT, clock.as_ref().map(|clock| clock.sigma));
     let code = match clock {
         None => exports::rove_clock_sigma_scale(&[], &mut record.0),
         Some(clock) => {
@@ -257,7 +257,6 @@ pub fn clock_sigma_scale(
             code
         }
     };
-    *generator = record.generator();
     record.proposal(code)
 }
 
@@ -268,11 +267,10 @@ pub fn branch_rate_scale(
     generator: &mut Generator,
     allowance: u64,
 ) -> Proposal {
-    let mut record = scaling(tuning, *generator, allowance);
-    put_optional(&mut record, AT, clock.as_ref().map(|clock| clock.sigma));
+    let record = scaling(tuning, generator, allowance);
+    put_optional(record, AT, clock.as_ref().map(|clock| clock.sigma));
     let rates: &mut [f64] = clock.map_or(&mut [], |clock| &mut clock.rates);
     let code = exports::rove_branch_rate_scale(rates, &mut record.0);
-    *generator = record.generator();
     record.proposal(code)
 }
 
@@ -286,14 +284,13 @@ pub fn fbd_scale(
     generator: &mut Generator,
     allowance: u64,
 ) -> Proposal {
-    let mut record = scaling(tuning, *generator, allowance);
+    let record = scaling(tuning, generator, allowance);
     record.set(word::NODE, field as u64);
-    process.put(&mut record);
-    priors.put(&mut record);
+    process.put(record);
+    priors.put(record);
     record.set_float(OFFSET, offset);
     let code = exports::rove_fbd_scale(&mut record.0);
-    process.take(&record);
-    *generator = record.generator();
+    process.take(record);
     record.proposal(code)
 }
 

@@ -1,7 +1,6 @@
 //! The record of a call: 32 words in which numbers go in and come out. Floats stand in it by their bits.
 
 use crate::answer::{Answer, Moved, Proposal, Ratio, Refusal};
-use crate::generator::Generator;
 
 pub const WORDS: usize = 32;
 
@@ -27,14 +26,6 @@ impl Record {
         Self([0; WORDS])
     }
 
-    /// A record with a generator and an allowance.
-    pub fn drawing(generator: Generator, allowance: u64) -> Self {
-        let mut record = Self::empty();
-        record.0[..4].copy_from_slice(&generator.0);
-        record.0[word::ALLOWANCE] = allowance;
-        record
-    }
-
     pub fn set(&mut self, place: usize, value: u64) {
         self.0[place] = value;
     }
@@ -51,15 +42,21 @@ impl Record {
         f64::from_bits(self.0[place])
     }
 
-    pub fn generator(&self) -> Generator {
+    /// The generator's words.
+    pub fn state(&self) -> [u64; 4] {
         let [a, b, c, d, ..] = self.0;
-        Generator([a, b, c, d])
+        [a, b, c, d]
+    }
+
+    pub fn set_state(&mut self, state: [u64; 4]) {
+        self.0[..4].copy_from_slice(&state);
     }
 
     /// The ratio of a moved call.
     ///
     /// # Panics
     /// Where the record's words are none that a call writes.
+    #[inline]
     pub fn ratio(&self) -> Ratio {
         let (first, second) = (self.0[word::FIRST], self.0[word::SECOND]);
         match self.0[word::KIND] {
@@ -84,6 +81,7 @@ impl Record {
     ///
     /// # Panics
     /// Where the record's words are none that a call writes.
+    #[inline]
     pub fn answer(&self, code: u64) -> Answer {
         let draws = self.0[word::DRAWS];
         match code {

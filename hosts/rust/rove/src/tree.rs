@@ -40,22 +40,24 @@ macro_rules! moves {
         [$($pairs:tt)+] [$($heights:tt)+] ($($parameter:ident: $t:ty => $set:ident $place:ident),*);)*) => {
         $(
             $(#[$about])*
+            #[inline]
             pub fn $name(&mut self, $($parameter: $t,)* generator: &mut Generator, allowance: u64) -> Answer {
-                let mut record = self.record(*generator, allowance);
+                let record = self.drawing(generator, allowance);
                 $(record.$set(word::$place, $parameter);)*
                 let code = exports::$export(
                     $($pairs)+ self.pairs, $($pairs)+ self.parents, $($heights)+ self.heights, &mut record.0);
-                self.taken(code, &record, generator)
+                self.taken(code, record)
             }
 
             /// The same without a look at the tree: for one that was accepted and has only been changed by these
             /// calls. On any other it is safe and ends, and nothing else is promised.
+            #[inline]
             pub fn $unvalidated(&mut self, $($parameter: $t,)* generator: &mut Generator, allowance: u64) -> Answer {
-                let mut record = self.record(*generator, allowance);
+                let record = self.drawing(generator, allowance);
                 $(record.$set(word::$place, $parameter);)*
                 let code = exports::$bare(
                     $($pairs)+ self.pairs, $($pairs)+ self.parents, $($heights)+ self.heights, &mut record.0);
-                self.taken(code, &record, generator)
+                self.taken(code, record)
             }
         )*
     };
@@ -81,14 +83,14 @@ impl Tree {
     }
 
     pub fn validate(&self) -> Result<(), Refusal> {
-        let mut record = self.record(Generator([0; 4]), 0);
+        let mut record = self.record();
         let code = exports::rove_validate(&self.pairs, &self.parents, &self.heights, &mut record.0);
         record.verdict(code)
     }
 
     /// Every node, with both children before their parent.
     pub fn postorder(&self) -> Result<Vec<u16>, Refusal> {
-        let mut record = self.record(Generator([0; 4]), 0);
+        let mut record = self.record();
         let mut order = vec![0; self.nodes()];
         let code =
             exports::rove_postorder(&self.pairs, &self.parents, &self.heights, &mut order, &mut record.0);
@@ -120,9 +122,9 @@ impl Tree {
 
     /// The first call of a slide: its node, and the uniforms of its step.
     pub fn slide_start(&self, generator: &mut Generator, allowance: u64) -> Result<Started, Refusal> {
-        let mut record = self.record(*generator, allowance);
+        let record = self.drawing(generator, allowance);
         let code = exports::rove_slide_start(&self.pairs, &self.parents, &self.heights, &mut record.0);
-        started(code, &record, generator)
+        started(code, record)
     }
 
     /// The same without a look at the tree.
@@ -131,15 +133,15 @@ impl Tree {
         generator: &mut Generator,
         allowance: u64,
     ) -> Result<Started, Refusal> {
-        let mut record = self.record(*generator, allowance);
+        let record = self.drawing(generator, allowance);
         let code =
             exports::rove_slide_start_unvalidated(&self.pairs, &self.parents, &self.heights, &mut record.0);
-        started(code, &record, generator)
+        started(code, record)
     }
 
     /// Puts every tip at the middle of its ages and the internal nodes above them, under the process's origin.
     pub fn initialize(&mut self, ages: &Ages, process: &Process) -> Result<(), Refusal> {
-        let mut record = self.record(Generator([0; 4]), 0);
+        let mut record = self.record();
         process.put(&mut record);
         let code = exports::rove_initialize(
             &self.pairs,
@@ -160,8 +162,8 @@ impl Tree {
         generator: &mut Generator,
         allowance: u64,
     ) -> Answer {
-        let mut record = self.record(*generator, allowance);
-        process.put(&mut record);
+        let record = self.drawing(generator, allowance);
+        process.put(record);
         let code = exports::rove_propose_age(
             &self.pairs,
             &self.parents,
@@ -170,12 +172,12 @@ impl Tree {
             &ages.maxima,
             &mut record.0,
         );
-        self.taken(code, &record, generator)
+        self.taken(code, record)
     }
 
     /// The terms of the Yule density at a rate.
     pub fn yule_log_density(&self, rate: f64) -> Result<Density, Refusal> {
-        let mut record = self.record(Generator([0; 4]), 0);
+        let mut record = self.record();
         record.set_float(word::PARAMETERS, rate);
         let code = exports::rove_yule_log_density(&self.pairs, &self.parents, &self.heights, &mut record.0);
         record.verdict(code)?;
@@ -184,7 +186,7 @@ impl Tree {
 
     /// Whether some node has exactly the marked tips below it; a mark is a byte other than 0, one for each tip.
     pub fn is_monophyletic(&self, members: &[u8]) -> Result<bool, Refusal> {
-        let mut record = self.record(Generator([0; 4]), 0);
+        let mut record = self.record();
         let code =
             exports::rove_is_monophyletic(&self.pairs, &self.parents, &self.heights, members, &mut record.0);
         record.verdict(code)?;
@@ -193,29 +195,37 @@ impl Tree {
 
     /// The age of the clade of the marked tips, in whole thousandths.
     pub fn clade_age(&self, members: &[u8]) -> Result<u64, Refusal> {
-        let mut record = self.record(Generator([0; 4]), 0);
+        let mut record = self.record();
         let code = exports::rove_clade_age(&self.pairs, &self.parents, &self.heights, members, &mut record.0);
         record.verdict(code)?;
         Ok(record.0[word::FIRST])
     }
 
-    fn record(&self, generator: Generator, allowance: u64) -> Record {
-        let mut record = Record::drawing(generator, allowance);
+    /// The record of a call that does not draw.
+    fn record(&self) -> Record {
+        let mut record = Record::empty();
         record.set_index(word::ROOT, self.root);
         record
     }
 
-    /// Takes over what a call has left in its record.
-    fn taken(&mut self, code: u64, record: &Record, generator: &mut Generator) -> Answer {
-        *generator = record.generator();
+    /// The record of a call that may draw so often.
+    #[inline]
+    fn drawing<'a>(&self, generator: &'a mut Generator, allowance: u64) -> &'a mut Record {
+        let record = generator.allowed(allowance);
+        record.set_index(word::ROOT, self.root);
+        record
+    }
+
+    /// What a call has left in its record.
+    #[inline]
+    fn taken(&mut self, code: u64, record: &Record) -> Answer {
         self.root = record.0[word::ROOT] as usize;
         record.answer(code)
     }
 }
 
-fn started(code: u64, record: &Record, generator: &mut Generator) -> Result<Started, Refusal> {
+fn started(code: u64, record: &Record) -> Result<Started, Refusal> {
     record.verdict(code)?;
-    *generator = record.generator();
     Ok(Started {
         node: record.0[word::NODE] as usize,
         uniforms: [record.float(word::FIRST), record.float(word::SECOND)],

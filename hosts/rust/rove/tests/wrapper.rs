@@ -40,25 +40,25 @@ fn sizes() {
     assert_eq!(Tree::new(vec![], vec![]), Err(Refusal::Size(0)));
     assert_eq!(empty.validate(), Err(Refusal::Size(0)));
     assert_eq!(empty.postorder(), Err(Refusal::Size(0)));
-    let mut generator = Generator([1, 2, 3, 4]);
+    let mut generator = Generator::from_state([1, 2, 3, 4]);
     let answer = empty.clone().wide_exchange(&mut generator, 9);
     assert_eq!(answer, Answer::Refused(Refusal::Size(0)));
-    assert_eq!(generator, Generator([1, 2, 3, 4]));
+    assert_eq!(generator, Generator::from_state([1, 2, 3, 4]));
 }
 
 #[test]
 fn generator() {
-    let mut generator = Generator([1, 2, 3, 4]);
+    let mut generator = Generator::from_state([1, 2, 3, 4]);
     assert_eq!(generator.next_u64(), 41_943_041);
     assert_eq!(generator.next_u64(), 58_720_359);
-    assert_eq!(Generator([0; 4]).below(4, 1), Ok(Drawn { number: 0, draws: 1 }));
-    assert_eq!(Generator([0; 4]).below(3, 65_535), Err(Refusal::Allowance(65_535)));
-    assert_eq!(Generator([0; 4]).below(0, 1), Err(Refusal::Parameter(0)));
+    assert_eq!(Generator::from_state([0; 4]).below(4, 1), Ok(Drawn { number: 0, draws: 1 }));
+    assert_eq!(Generator::from_state([0; 4]).below(3, 65_535), Err(Refusal::Allowance(65_535)));
+    assert_eq!(Generator::from_state([0; 4]).below(0, 1), Err(Refusal::Parameter(0)));
 }
 
 #[test]
 fn slide_up_and_down() {
-    let (mut tree, mut generator) = (tree_f(), Generator([1, 2, 3, 4]));
+    let (mut tree, mut generator) = (tree_f(), Generator::from_state([1, 2, 3, 4]));
     let up = moved(tree.subtree_slide(0, 2.0, &mut generator, 9));
     assert_eq!((up.root, up.draws, up.ratio), (3, 0, Ratio::Counts(1, 2)));
     assert_eq!(up.ratio.ln_upward().to_bits(), (-(2.0f64.ln())).to_bits());
@@ -72,11 +72,11 @@ fn slide_up_and_down() {
 
 #[test]
 fn slide_start() {
-    let (tree, mut generator) = (tree_f(), Generator([1, 2, 3, 4]));
+    let (tree, mut generator) = (tree_f(), Generator::from_state([1, 2, 3, 4]));
     let started = tree.slide_start(&mut generator, 9).expect("a node");
     assert_eq!((started.node, started.draws), (0, 3));
     assert_eq!(started.uniforms[0], (58_720_359u64 >> 11) as f64 / (1u64 << 53) as f64);
-    assert_eq!(tree.slide_start(&mut Generator([1, 2, 3, 4]), 2), Err(Refusal::Allowance(2)));
+    assert_eq!(tree.slide_start(&mut Generator::from_state([1, 2, 3, 4]), 2), Err(Refusal::Allowance(2)));
 }
 
 #[test]
@@ -104,7 +104,7 @@ fn unvalidated() {
     if !exports::UNVALIDATED {
         return;
     }
-    let (mut tree, mut generator) = (tree_f(), Generator([1, 2, 3, 4]));
+    let (mut tree, mut generator) = (tree_f(), Generator::from_state([1, 2, 3, 4]));
     let moved = moved(tree.root_scale_unvalidated(0.5, &mut generator, 9));
     assert_eq!((moved.root, moved.draws), (4, 1));
     assert_eq!(tree.heights[4].to_bits(), 0x3ff0_0000_0000_7800);
@@ -120,18 +120,18 @@ fn scales() {
     let factor = 0.5 + 5.0 / (1u64 << 41) as f64 * 1.5;
     let scaled = Proposal::Scaled(1, Ratio::Power(factor, -1));
     let mut value = 3.0;
-    assert_eq!(scale(&mut value, 9.0, 0.5, &mut Generator(state), 9), scaled);
+    assert_eq!(scale(&mut value, 9.0, 0.5, &mut Generator::from_state(state), 9), scaled);
     assert_eq!(value, 3.0 * factor);
     let mut mean = Some(2.0);
-    assert_eq!(clock_rate_scale(&mut mean, 0.5, &mut Generator(state), 9), scaled);
+    assert_eq!(clock_rate_scale(&mut mean, 0.5, &mut Generator::from_state(state), 9), scaled);
     assert_eq!(mean, Some(2.0 * factor));
-    assert_eq!(clock_rate_scale(&mut None, 0.5, &mut Generator(state), 9), Proposal::Declined(0));
+    assert_eq!(clock_rate_scale(&mut None, 0.5, &mut Generator::from_state(state), 9), Proposal::Declined(0));
     let mut yule = Speciation::Yule { birth_rate: 2.0 };
-    assert_eq!(birth_rate_scale(&mut yule, 9.0, 0.5, &mut Generator(state), 9), scaled);
+    assert_eq!(birth_rate_scale(&mut yule, 9.0, 0.5, &mut Generator::from_state(state), 9), scaled);
     assert_eq!(yule, Speciation::Yule { birth_rate: 2.0 * factor });
     let mut both = Speciation::BirthDeath { birth_difference: 2.0, relative_death: 0.5 };
-    assert_eq!(birth_difference_scale(&mut both, 9.0, 0.5, &mut Generator(state), 9), scaled);
-    assert_eq!(relative_death_scale(&mut both, 0.5, &mut Generator(state), 9), scaled);
+    assert_eq!(birth_difference_scale(&mut both, 9.0, 0.5, &mut Generator::from_state(state), 9), scaled);
+    assert_eq!(relative_death_scale(&mut both, 0.5, &mut Generator::from_state(state), 9), scaled);
     let after = Speciation::BirthDeath { birth_difference: 2.0 * factor, relative_death: 0.5 * factor };
     assert_eq!(both, after);
 }
@@ -154,19 +154,19 @@ fn clock() {
     assert_eq!(clock.set_rate(2, 1.0), Err(Refusal::Parameter(0)));
     let state = [1, 2, 3, 4];
     let Proposal::Scaled(1, Ratio::Power(factor, -1)) =
-        clock_sigma_scale(Some(&mut clock), 0.5, &mut Generator(state), 9)
+        clock_sigma_scale(Some(&mut clock), 0.5, &mut Generator::from_state(state), 9)
     else {
         panic!("a scale");
     };
     assert_eq!(clock.sigma, 0.25 * factor);
     let Proposal::Scaled(2, Ratio::Power(factor, -1)) =
-        branch_rate_scale(Some(&mut clock), 0.5, &mut Generator(state), 9)
+        branch_rate_scale(Some(&mut clock), 0.5, &mut Generator::from_state(state), 9)
     else {
         panic!("a scale");
     };
     assert_eq!(clock.rates, [factor, 4.0]);
-    assert_eq!(branch_rate_scale(None, 0.5, &mut Generator(state), 9), Proposal::Declined(0));
-    assert_eq!(clock_sigma_scale(None, 0.5, &mut Generator(state), 9), Proposal::Declined(0));
+    assert_eq!(branch_rate_scale(None, 0.5, &mut Generator::from_state(state), 9), Proposal::Declined(0));
+    assert_eq!(clock_sigma_scale(None, 0.5, &mut Generator::from_state(state), 9), Proposal::Declined(0));
     let none = Clock { sigma: 1.0, rates: vec![] };
     assert_eq!(none.validate(), Err(Refusal::Parameter(0)));
 }
@@ -185,7 +185,7 @@ fn process() {
         Priors { present_sampling_beta: Some((1.0, 0.0)), ..priors }.validate(),
         Err(Refusal::Parameter(0))
     );
-    let mut generator = Generator([1, 2, 3, 4]);
+    let mut generator = Generator::from_state([1, 2, 3, 4]);
     let answer = fbd_scale(Field::Birth, &priors, &mut process, 2.0, 0.5, &mut generator, 9);
     assert_eq!(answer, Proposal::Declined(0));
     let Proposal::Scaled(1, Ratio::Power(factor, -1)) =
@@ -211,7 +211,7 @@ fn dating() {
     let ages = Ages { minima: vec![1.0, 0.0, 0.0], maxima: vec![3.0, 0.0, 0.0] };
     assert_eq!(tree.initialize(&ages, &process), Ok(()));
     assert_eq!(tree.heights[0], 2.0);
-    let answer = tree.propose_age(&ages, &process, &mut Generator([1, 2, 3, 4]), 9);
+    let answer = tree.propose_age(&ages, &process, &mut Generator::from_state([1, 2, 3, 4]), 9);
     assert!(matches!(answer, Answer::Moved(Moved { ratio: Ratio::Even, .. })), "{answer:?}");
     let wrong = Ages { minima: vec![1.0, -1.0, 0.0], ..ages.clone() };
     assert_eq!(tree.initialize(&wrong, &process), Err(Refusal::Parameter(1)));

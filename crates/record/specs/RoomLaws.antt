@@ -1,4 +1,4 @@
--- Words that were found to be a record have room for what is written (`recordLaws`): before anything is written, and once the generator is. b is what
+-- Words that were found to be a record have room for what is written (`roomLaws`): before anything is written, and once the generator is. b is what
 -- the test said. Assumes nothing.
 use mathlib.Core.Path.{_≡_, sym, _∙_}
 use mathlib.Core.Bool.{Bool, true}
@@ -18,4 +18,4 @@ module _ (words : List ℕ) (b : Bool) (eb : b ≡ isRecord words) (h : b ≡ tr
   pub recorded-drawn : (g : Random) (after : List ℕ) → after ≡ withGenerator g words → 32 ≤ length after
   recorded-drawn g after e = rw (e, length-sets words 0 (stateOf g)) recorded
 
-pub ruleset recordLaws = (recorded, recorded-drawn)
+pub ruleset roomLaws = (recorded, recorded-drawn)
