@@ -1,7 +1,7 @@
 -- The ways through the reads of a slice: a place inside it, or one past its end. Assumes nothing.
 use mathlib.Core.Path.{_≡_, refl, sym, _∙_}
 use mathlib.Core.List.{List}
-use Prim.Native.Nat.{ℕ, _+_, _/_, _≤_, _<_}
+use Prim.Native.Nat.{ℕ, _+_, _-_, _/_, _≤_}
 use native.Mathlib.Omega.{arith}
 use native.Mathlib.Decide.{decLe}
 use lib.Dec.{ltb}
@@ -23,11 +23,8 @@ inner-half n k = go (decLe k (n / 2))
 -- ---- children
 
 module _ (pairs : List ℕ) (k : ℕ) where
-  pub first-past : length pairs / 2 < k → 0 ≡ firstIn pairs k
+  pub first-past : length pairs - length pairs / 2 ≤ k → 0 ≡ firstIn pairs k
   first-past h = sym (List·getD-eq-default pairs 0 (omega arith))
-
-  pub first-end : length pairs ≤ k + k → 0 ≡ firstIn pairs k
-  first-end h = sym (List·getD-eq-default pairs 0 h)
 
   pub second-past : length pairs / 2 ≤ k → 0 ≡ secondIn pairs k
   second-past h = sym (List·getD-eq-default pairs 0 (omega arith))
@@ -53,4 +50,4 @@ height-past heights k h x e = e ∙ unread ∙ sym (List·getD-eq-default height
     unread : ofBits binary64 0x7ff8_0000_0000_0000 ≡ nan
     unread = unfold ofBits in refl
 
-pub ruleset readLaws = (wide16, inner-half, first-past, first-end, second-past, second-is, other-second, other-first, parent-past, height-past)
+pub ruleset readLaws = (wide16, inner-half, first-past, second-past, second-is, other-second, other-first, parent-past, height-past)

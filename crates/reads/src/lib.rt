@@ -17,12 +17,8 @@ pub fn is_inner(n: usize, k: usize) -> bool
 pub fn first(pairs: &[u16], k: usize) -> usize
     ensures { λ r. ⌜ r ≡ firstIn (now (pairs .entry)) k ⌝ }
 {
-    if k <= pairs.len() / 2 {
-        let place = k + k;
-        if place < pairs.len() {
-            return pairs[place] as usize;
-        }
-        return 0;
+    if k < pairs.len() - pairs.len() / 2 {
+        return pairs[k + k] as usize;
     }
     0
 }

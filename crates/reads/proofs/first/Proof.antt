@@ -4,8 +4,11 @@ use Rattle.reads.proofs.ReadLaws.{readLaws}
 use Rattle.reads.proofs.first.Statement.{statement}
 use Rattle.reads.proofs.first.Tie as tie
 
-add-place : tie.Need-add-place
-add-place c = search (readLaws, needs)
+sub-if1 : tie.Need-sub-if1
+sub-if1 c = search (readLaws, needs)
+
+add-result : tie.Need-add-result
+add-result c = search (readLaws, needs)
 
 mul-result : tie.Need-mul-result
 mul-result c = search (readLaws, needs)
@@ -22,17 +25,7 @@ returns c = search (readLaws, needs)
 returns-2 : tie.Need-returns-2
 returns-2 c = search (readLaws, needs)
 
-returns-3 : tie.Need-returns-3
-returns-3 c = search (readLaws, needs)
-
 pub first-spec : {M : Type 1} → statement M
 first-spec =
     tie.close
-    (tie.spec
-    add-place
-    mul-result
-    shared-slice-read-result
-    cast-result
-    returns
-    returns-2
-    returns-3)
+    (tie.spec sub-if1 add-result mul-result shared-slice-read-result cast-result returns returns-2)
