@@ -2,17 +2,6 @@
 //! record of fewer than 32 words is answered with 3. What is believed here is that the declarations below are those of the
 //! archives, where a slice is a pointer and a length.
 
-/// An address for an empty slice, which is never read or written through.
-static NOTHING: u64 = 0;
-
-fn address<T>(slice: &[T]) -> *const T {
-    if slice.is_empty() { (&raw const NOTHING).cast() } else { slice.as_ptr() }
-}
-
-fn address_mut<T>(slice: &mut [T]) -> *mut T {
-    if slice.is_empty() { (&raw const NOTHING).cast_mut().cast() } else { slice.as_mut_ptr() }
-}
-
 macro_rules! slice {
     (read $t:ty) => {
         &[$t]
@@ -29,10 +18,10 @@ macro_rules! pointer {
 
 macro_rules! place {
     (read $slice:ident) => {
-        address($slice)
+        $slice.as_ptr()
     };
     (lend $slice:ident) => {
-        address_mut($slice)
+        $slice.as_mut_ptr()
     };
 }
 
@@ -47,7 +36,7 @@ macro_rules! exports {
                     fn $name($($slice: pointer!($way $t), _: usize,)* words: *mut u64, _: usize) -> u64;
                 }
                 // SAFETY: each pair is the address and the length of a slice that is borrowed for the call.
-                unsafe { $name($(place!($way $slice), $slice.len(),)* address_mut(words), words.len()) }
+                unsafe { $name($(place!($way $slice), $slice.len(),)* words.as_mut_ptr(), words.len()) }
             }
 
             #[cfg(not($part))]
@@ -115,7 +104,7 @@ pub fn rove_seed(seed: u64, words: &mut [u64]) -> u64 {
         fn rove_seed(seed: u64, words: *mut u64, _: usize) -> u64;
     }
     // SAFETY: address and length of a slice that is borrowed for the call.
-    unsafe { rove_seed(seed, address_mut(words), words.len()) }
+    unsafe { rove_seed(seed, words.as_mut_ptr(), words.len()) }
 }
 
 #[cfg(not(moves))]
@@ -131,7 +120,7 @@ pub fn rove_answer(file: &[u8], answer: &mut [u8]) -> usize {
         fn rove_answer(file: *const u8, _: usize, answer: *mut u8, _: usize) -> usize;
     }
     // SAFETY: addresses and lengths of slices that are borrowed for the call.
-    unsafe { rove_answer(address(file), file.len(), address_mut(answer), answer.len()) }
+    unsafe { rove_answer(file.as_ptr(), file.len(), answer.as_mut_ptr(), answer.len()) }
 }
 
 #[cfg(not(answer))]
