@@ -16,9 +16,11 @@ use Rattle.statefile.specs.declared.FileRead.{FileRead}
 use Rattle.statefile.specs.declared.FileRead.the-variants as FileRead
 use Rattle.statefile.specs.StateFile.{faulty, nodesFor, stateOf, stateFile}
 use Rattle.statefile.specs.Given.{Held, fileGiven}
-use Rattle.report.specs.Report.{refusedText, Delivery, delivered}
+use Rattle.report.specs.Report.{refusedText, Delivery, delivery, delivered}
 use Rattle.respond.specs.Respond.{treeReply, stateReply, readReply, fileReply}
-use Rattle.respond.specs.Given.{Lent, Room, nodes}
+use Rattle.respond.specs.declared.Tried.{Tried}
+use Rattle.respond.specs.declared.Tried.the-variants as Tried
+use Rattle.respond.specs.Given.{Lent, Room, nodes, tried}
 
 -- a tree of more nodes than any
 new-large : (pairs : List ℕ) (heights : List Float) → 4095 < nodesOf pairs → newTree pairs heights ≡ refused (Size (nodesOf pairs))
@@ -46,12 +48,12 @@ module _ (s ps₀ ps qs : List ℕ) (hs₀ hs : List Float) (room : Room ps₀ q
         let g : 4095 < nodesOf (t .pairs) = rw q g in
         rw (held .is, new-large (t .pairs) (t .heights) g, q) h
 
-    pub file-state : n ≤ 4095 → d ≡ delivered out (stateReply (stateOf head (nodes (take (n + n) ps) (take n hs)))) → d ≡ delivered out (readReply (stateFile s))
+    pub file-state : length hs ≡ length hs₀ → n ≤ length hs → d ≡ delivered out (stateReply (stateOf head (nodes (take (n + n) ps) (take n hs)))) → d ≡ delivered out (readReply (stateFile s))
     unfolding readReply
-    file-state g h =
+    file-state k g h =
         let m : n + n ≡ 2 * nodesFor (head .tips) = omega arith in
         let a : 2 * nodesFor (head .tips) ≤ length ps₀ = omega (arith, room .places) in
-        let b : nodesFor (head .tips) ≤ length hs₀ = omega (arith, room .nodes) in
+        let b : nodesFor (head .tips) ≤ length hs₀ = omega arith in
         let p : take (n + n) ps ≡ held .tree .pairs = ap (λ (k : ℕ). take k ps) m ∙ held .shown .pairsHeld a in
         let q : take n hs ≡ held .tree .heights = ap (λ (k : ℕ). take k hs) en ∙ held .shown .heightsHeld b in
         rw (held .is) (h ∙ (λ i. delivered out (stateReply (stateOf head (nodes (p i) (q i))))))
@@ -60,7 +62,7 @@ pub ruleset readLaws = (file-wrong, file-large, file-state)
 
 -- ---- the parts of the room that a tree of n nodes takes
 
-module _ (ps₀ qs : List ℕ) (hs₀ : List Float) (room : Room ps₀ qs hs₀) (n : ℕ) (few : n ≤ 4095) where
+module _ (ps₀ qs : List ℕ) (hs₀ : List Float) (room : Room ps₀ qs hs₀) (n : ℕ) (few : n ≤ 4095) (k : ℕ) (same : k ≡ length hs₀) (fits : n ≤ k) where
   pub part-parents : length (take n qs) ≡ n
   part-parents = length-take-le n qs (omega (arith, room .uppers))
 
@@ -70,7 +72,7 @@ module _ (ps₀ qs : List ℕ) (hs₀ : List Float) (room : Room ps₀ qs hs₀)
 
   module _ (hs : List Float) (kept : length hs ≡ length hs₀) where
     pub part-heights : length (take n hs) ≡ n
-    part-heights = length-take-le n hs (omega (arith, room .nodes))
+    part-heights = length-take-le n hs (omega arith)
 
   pub part-lent : (ps : List ℕ) → length ps ≡ length ps₀ → (hs : List Float) → length hs ≡ length hs₀ → Lent (take (n + n) ps) (take n qs) (take n hs)
   part-lent ps e hs f =
@@ -78,6 +80,25 @@ module _ (ps₀ qs : List ℕ) (hs₀ : List Float) (room : Room ps₀ qs hs₀)
       let b : length (take n hs) ≡ n = part-heights hs f in
       let c : length (take n qs) ≡ n = part-parents in
       record { few = record { nodes = omega arith; each = omega arith }; each = omega arith }
+
+-- ---- what comes of a try
+
+-- t is what the try in room for so many nodes answered, out being the slice before it and after the slice then
+module _ (s : List ℕ) (room : ℕ) (out after : List ℕ) (t : Tried) (e : tried s room out t after) where
+  pub tried-answered : (count : ℕ) → t ≡ Tried.Answered count → delivery count after ≡ delivered out (readReply (stateFile s))
+  tried-answered count y = subst (λ (x : Tried). tried s room out x after) y e
+
+  -- nothing was written, and the file is tried once more
+  pub tried-again : t ≡ Tried.NoRoom → (d : Delivery) → d ≡ delivered after (readReply (stateFile s)) → d ≡ delivered out (readReply (stateFile s))
+  tried-again y d h = let f : (after ≡ out) × (room < 4095) = subst (λ (x : Tried). tried s room out x after) y e in h ∙ ap (λ (x : List ℕ). delivered x (readReply (stateFile s))) (f .0)
+
+  pub tried-whole : t ≡ Tried.NoRoom → room ≡ 4095 → (d : Delivery) → d ≡ delivered out (readReply (stateFile s))
+  tried-whole y h d = let f : (after ≡ out) × (room < 4095) = subst (λ (x : Tried). tried s room out x after) y e in absurd (omega (arith, f .1))
+
+  pub tried-in : (k : ℕ) → room ≡ k → tried s k out t after
+  tried-in k y = subst (λ (x : ℕ). tried s x out t after) y e
+
+pub ruleset triedLaws = (tried-answered, tried-again, tried-whole, tried-in)
 
 -- ---- the whole file
 

@@ -10,7 +10,7 @@ ghost use Rattle.random.specs.Generator.{fromState};
 ghost use Rattle.statefile.specs.StateFile.{moveOf, stateOf, wordsOf, stateFile};
 ghost use Rattle.report.specs.Report.{delivery, delivered};
 ghost use Rattle.respond.specs.Respond.{stateReply, readReply, fileReply};
-ghost use Rattle.respond.specs.Given.{Lent, Room, nodes};
+ghost use Rattle.respond.specs.Given.{Lent, Room, nodes, tried};
 use answer::Refusal;
 use calls::Answered;
 use exchanges::narrow_exchange_unvalidated;
@@ -27,6 +27,9 @@ use statefile::FileRead;
 use statefile::Head;
 use tree::Rooted;
 use wilson::wilson_balding_unvalidated;
+
+// A tree of a file of so many bytes has at most 511 nodes: each height takes 24.
+const SHORT: usize = 12288;
 
 // The move that is asked for, on a tree that was accepted.
 fn make(
@@ -102,6 +105,12 @@ fn answer_state(
     }
 }
 
+// What comes of a try to answer a file in lent slices: how long the answer is, or that they have no room for its tree.
+enum Tried {
+    Answered(usize),
+    NoRoom,
+}
+
 // The answer of a file that is not too long, its tree being read into the slices.
 fn respond_in(
     file: &[u8],
@@ -109,28 +118,31 @@ fn respond_in(
     parents: &mut [u16],
     heights: &mut [f64],
     out: &mut [u8],
-) -> usize
+) -> Tried
     requires { ⌜ Room (now pairs) (now parents) (now heights) ⌝ }
-    ensures { λ r. ⌜ delivery r (now (out .exit)) ≡ delivered (now (out .entry)) (readReply (stateFile (now (file .entry)))) ⌝ }
+    ensures { λ r. ⌜ tried (now (file .entry)) (length (now (heights .entry))) (now (out .entry)) r (now (out .exit)) ⌝ }
 {
     let read = statefile::read_state(file, pairs, heights);
     match read {
         FileRead::Wrong(line) => {
-            return report::put_refusal(out, Refusal::Line(line));
+            return Tried::Answered(report::put_refusal(out, Refusal::Line(line)));
         }
         FileRead::Read(head) => {
             let n = statefile::node_count(head.tips);
             if 4095 < n {
-                return report::put_refusal(out, Refusal::Size(n));
+                return Tried::Answered(report::put_refusal(out, Refusal::Size(n)));
+            }
+            if heights.len() < n {
+                return Tried::NoRoom;
             }
             let m = n + n;
-            return answer_state(
+            return Tried::Answered(answer_state(
                 head,
                 &mut pairs[..m],
                 &mut parents[..n],
                 &mut heights[..n],
                 out,
-            );
+            ));
         }
     }
 }
@@ -154,6 +166,69 @@ fn heights_room() -> [f64; 4095]
     [0.0; 4095]
 }
 
+// In room for any tree.
+fn respond_long(file: &[u8], out: &mut [u8]) -> usize
+    ensures { λ r. ⌜ delivery r (now (out .exit)) ≡ delivered (now (out .entry)) (readReply (stateFile (now (file .entry)))) ⌝ }
+{
+    let mut pairs = pairs_room();
+    let mut parents = parents_room();
+    let mut heights = heights_room();
+    match respond_in(file, &mut pairs, &mut parents, &mut heights, out) {
+        Tried::Answered(count) => {
+            return count;
+        }
+        Tried::NoRoom => {
+            return 0;
+        }
+    }
+}
+
+// Room for a tree of 511 nodes.
+fn pairs_short() -> [u16; 1022]
+    ensures { λ r. ⌜ length r ≡ 1022 ⌝ }
+{
+    [0u16; 1022]
+}
+
+fn parents_short() -> [u16; 511]
+    ensures { λ r. ⌜ length r ≡ 511 ⌝ }
+{
+    [0u16; 511]
+}
+
+fn heights_short() -> [f64; 511]
+    ensures { λ r. ⌜ length r ≡ 511 ⌝ }
+{
+    [0.0; 511]
+}
+
+// In room for a tree of 511 nodes, which is cleared in less time.
+fn respond_short(file: &[u8], out: &mut [u8]) -> Tried
+    ensures { λ r. ⌜ tried (now (file .entry)) 511 (now (out .entry)) r (now (out .exit)) ⌝ }
+{
+    let mut pairs = pairs_short();
+    let mut parents = parents_short();
+    let mut heights = heights_short();
+    respond_in(file, &mut pairs, &mut parents, &mut heights, out)
+}
+
+// The answer of a file that is not too long.
+fn respond_to(file: &[u8], out: &mut [u8]) -> usize
+    ensures { λ r. ⌜ delivery r (now (out .exit)) ≡ delivered (now (out .entry)) (readReply (stateFile (now (file .entry)))) ⌝ }
+{
+    if SHORT < file.len() {
+        return respond_long(file, out);
+    }
+    match respond_short(file, out) {
+        Tried::Answered(count) => {
+            return count;
+        }
+        Tried::NoRoom => {
+            return respond_long(file, out);
+        }
+    }
+}
+
 // The answer of a state file of at most so many bytes, at the start of `out`, and how long it is; 0, with nothing written, where `out` is too short.
 pub fn respond(file: &[u8], limit: usize, out: &mut [u8]) -> usize
     ensures { λ r. ⌜ delivery r (now (out .exit)) ≡ delivered (now (out .entry)) (fileReply limit (now (file .entry))) ⌝ }
@@ -161,8 +236,5 @@ pub fn respond(file: &[u8], limit: usize, out: &mut [u8]) -> usize
     if limit < file.len() {
         return report::put_refusal(out, Refusal::Line(0));
     }
-    let mut pairs = pairs_room();
-    let mut parents = parents_room();
-    let mut heights = heights_room();
-    respond_in(file, &mut pairs, &mut parents, &mut heights, out)
+    respond_to(file, out)
 }
