@@ -1,0 +1,4 @@
+pub mod StateText
+pub mod ReadingLaws
+pub mod ReadBackLaws
+pub mod Rows

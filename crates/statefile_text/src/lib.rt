@@ -1,0 +1,4 @@
+// The text of a state.
+fn nothing() -> usize {
+    0
+}
