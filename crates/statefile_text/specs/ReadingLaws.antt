@@ -1,16 +1,18 @@
 -- Rules and readers one after the other: what follows one that has read (`rule-then`, `reader-then`, `line-then`, `each-next`), and what reads back as it was put: a
--- fixed text, a value after a comma, the value of a line (`fixed-reads`, `next-reads`, `entry-reads`). Assumes nothing.
-use mathlib.Core.Path.{_≡_, sym, ap, _∙_}
+-- fixed text, a value after a comma, the value of a line (`fixed-reads`, `next-reads`, `entry-reads`); then what was read by readers that have read (`split`, `line-read`, `each-read`).
+-- Assumes nothing.
+use mathlib.Core.Path.{_≡_, refl, sym, ap, _∙_, subst}
 use mathlib.Core.List.{List, [], _∷_, _++_, append-assoc}
-use Prim.Native.Nat.{ℕ, suc, _+_}
+use Prim.Native.Nat.{ℕ, zero, suc, _+_}
 use native.Mathlib.Omega.{arith}
+use lib.ListN.{length}
 use Rattle.text.specs.Text.{bytes, lineEnd}
 use Rattle.text.specs.Rules as Rules
-use Rattle.text.specs.Rules.{Rule, Parsed, parsed, literal, fixed, _>>=_ as _>>=ʳ_}
+use Rattle.text.specs.Rules.{Rule, Parsed, malformed, parsed, literal, fixed, _>>=_ as _>>=ʳ_}
 use Rattle.text.specs.ReadBackLaws.{literal-reads}
 use Rattle.forms.specs.Forms.{entry, next}
 use Rattle.notation.specs.Notation as Notation
-use Rattle.statefile.specs.Lines.{Found, found, Reader, onward, _>>=_, line, counted, each}
+use Rattle.statefile.specs.Lines.{Found, wrong, found, Reader, return, onward, _>>=_, line, counted, each}
 use Rattle.statefile.specs.EachLaws.{after, each-more}
 
 pub regroup : (a b c rest : List ℕ) → a ++ b ++ c ++ rest ≡ a ++ (b ++ (c ++ rest))
@@ -53,3 +55,53 @@ module _ {A : Type 0} (a : A) (rest : List ℕ) where
         ∙ rule-then (literal key) _ (literal-reads key (value ++ (lineEnd ++ rest)))
         ∙ rule-then rule _ e
         ∙ fixed-reads lineEnd
+
+-- ---- what was read
+
+-- two answers told apart, and what equal ones hold
+module _ {A : Type 0} where
+  pub unfound : {a : A} {k j : ℕ} {rest : List ℕ} → wrong k ≡ found a j rest → ⊥
+  unfound e = let z : _≡_ {A = ℕ} 0 1 = cc in omega arith
+
+  pub same-found : {a b : A} {k j : ℕ} {s rest : List ℕ} → found a k s ≡ found b j rest → a ≡ b
+  same-found e = cc
+
+-- what the first of two readers has read, and that the second has read on
+pub record Split {A B : Type 0} (reader : Reader A) (f : A → Reader B) (k : ℕ) (s : List ℕ) (b : B) (j : ℕ) (rest : List ℕ) : Type 0 where
+  pub value : A
+  pub at : ℕ
+  pub after : List ℕ
+  pub first : reader k s ≡ found value at after
+  pub second : f value at after ≡ found b j rest
+
+pub split : {A B : Type 0} (reader : Reader A) (f : A → Reader B) {k : ℕ} {s : List ℕ} {b : B} {j : ℕ} {rest : List ℕ} → (reader >>= f) k s ≡ found b j rest
+    → Split reader f k s b j rest
+unfolding onward _>>=_
+split {A} {B} reader f {k} {s} {b} {j} {rest} e = go (reader k s) refl e
+  where
+    go : (p : Found A) → reader k s ≡ p → onward p f ≡ found b j rest → Split reader f k s b j rest
+    go (wrong i) q e = absurd (unfound e)
+    go (found a i t) q e = record { value = a; at = i; after = t; first = q; second = e }
+
+pub line-read : {A : Type 0} (rule : Rule A) (k : ℕ) {s : List ℕ} {a : A} {j : ℕ} {rest : List ℕ} → line rule k s ≡ found a j rest → rule s ≡ parsed a rest
+unfolding line
+line-read {A} rule k {s} {a} {j} {rest} e = go (rule s) e
+  where
+    go : (p : Parsed A) → counted k p ≡ found a j rest → p ≡ parsed a rest
+    go malformed e = absurd (unfound e)
+    go (parsed b t) e = cc
+
+abbrev pub Every : {A : Type 0} → (A → Type 0) → List A → Type 0
+Every Has [] = Unit
+Every Has (a ∷ l) = Has a × Every Has l
+
+-- so many lines of one form give as many values, and each has what every value of such a line has
+module _ {A : Type 0} (rule : Rule A) (Has : A → Type 0) (has : (s : List ℕ) (a : A) (rest : List ℕ) → rule s ≡ parsed a rest → Has a) where
+  pub each-read : (n k : ℕ) (s : List ℕ) {l : List A} {j : ℕ} {rest : List ℕ} → each n rule k s ≡ found l j rest → (length l ≡ n) × Every Has l
+  unfolding each return
+  each-read zero k s e = subst (λ (l : List A). (length l ≡ 0) × Every Has l) (same-found e) (refl, tt)
+  each-read (suc n) k s e =
+      let a = split (line rule) _ e in
+      let m = split (each n rule) _ (a .second) in
+      let r = each-read n (a .at) (a .after) (m .first) in
+      subst (λ (l : List A). (length l ≡ suc n) × Every Has l) (same-found (m .second)) (ap suc (r .0), (has s (a .value) (a .after) (line-read rule k (a .first)), r .1))
