@@ -1,4 +1,5 @@
 pub mod StateText
+pub mod LengthLaws
 pub mod ReadingLaws
 pub mod ReadBackLaws
 pub mod WritableLaws
