@@ -7,13 +7,13 @@ use lib.ListN.{length, getD, length-append}
 use lib.Ieee.{Float}
 use mir.Syntax.{w64}
 use mir.Val.{Fits}
-use Rattle.text.specs.Text.{bytes, decimalText}
+use Rattle.text.specs.Text.{decimalText}
 use Rattle.forms.specs.Forms.{nameOf}
 use Rattle.forms.specs.declared.Kind.{Kind}
 use Rattle.print.specs.Writing.{written, write}
 use Rattle.print.specs.NumberLaws.{digits-few}
 use Rattle.tree.specs.Tree.{nodesOf, tipsOf}
-use Rattle.notation.specs.Notation.{line, pairLine, pairLines, pairsText, heightsText}
+use Rattle.notation.specs.Notation.{pairLine, pairLines, pairsText, heightsText}
 use Rattle.notation.specs.NotationLaws.{next-pair}
 use Rattle.notation.specs.LengthLaws.{length-heights}
 use Rattle.report.specs.Report.{delivery, delivered}
@@ -21,7 +21,7 @@ use Rattle.report.specs.ReportLaws.{deliver-short, deliver-whole}
 use Rattle.statefile.specs.declared.Supplied.{Supplied}
 use Rattle.statefile.specs.declared.Asked.{Asked}
 use Rattle.statefile.specs.StateFile.{wordsOf, moveOf, stateIn}
-use Rattle.statefile_text.specs.StateText.{nodeOf, suppliedText, askedText, fileText}
+use Rattle.statefile_text.specs.StateText.{nodeOf, suppliedText, askedText, tipsText, fileText}
 use Rattle.statefile_text.specs.LengthLaws.{names-few, length-supplied, length-asked, length-tips, length-file}
 use Rattle.statefile_text.proofs.PutLaws.{kind-is}
 
@@ -43,9 +43,10 @@ module _ (draws d : ℕ) (ed : d ≡ length (decimalText draws)) where
         pub tips-fit : Fits w64 (133 + d + m + e + t)
         tips-fit = let f = digits-few draws in let g = names-few k in let h = digits-few i in let j = digits-few tips in record { fits = omega arith }
 
-        pub head-len : (words : List ℕ) (n : ℕ) (x : Float) → i ≡ nodeOf (moveOf k n x)
-            → 133 + d + m + e + t ≡ length (suppliedText draws words) + length (askedText (moveOf k n x)) + length (line (bytes "tips=") (decimalText tips))
-        head-len words n x ei = rw (length-supplied draws words, length-asked (moveOf k n x), length-tips tips, kind-is k n x, ← ei, ← ed, ← em, ← ee, ← et) (omega arith)
+        pub head-len : (words : List ℕ) (n : ℕ) (x : Float) (pairs : List ℕ) → i ≡ nodeOf (moveOf k n x) → tips ≡ tipsOf (nodesOf pairs)
+            → 133 + d + m + e + t ≡ length (suppliedText draws words) + length (askedText (moveOf k n x)) + length (tipsText pairs)
+        head-len words n x pairs ei en =
+            rw (length-supplied draws words, length-asked (moveOf k n x), length-tips pairs, kind-is k n x, ← ei, ← en, ← ed, ← em, ← ee, ← et) (omega arith)
 
 pub ruleset headLaws = (draws-fit, name-fits, node-fits, tips-fit, head-len)
 
@@ -93,17 +94,16 @@ pub ruleset takenLaws = (taken-none, taken-place, taken-next, taken-all)
 
 -- ---- the whole text
 
-module _ (x : Supplied) (y : Asked) (pairs : List ℕ) (tips head : ℕ) (et : tips ≡ tipsOf (nodesOf pairs))
-    (eh : head ≡ length (suppliedText (x .draws) (wordsOf (x .words))) + length (askedText (moveOf (y .kind) (y .node) (y .tuning))) + length (line (bytes "tips=") (decimalText tips))) where
+module _ (x : Supplied) (y : Asked) (pairs : List ℕ) (head : ℕ)
+    (eh : head ≡ length (suppliedText (x .draws) (wordsOf (x .words))) + length (askedText (moveOf (y .kind) (y .node) (y .tuning))) + length (tipsText pairs)) where
   pub head-some : 1 ≤ head
-  head-some = let l = length-tips tips in omega arith
+  head-some = let l = length-tips pairs in omega arith
 
   pub all-left : (heights : List Float) (room a b r : ℕ) → a ≡ room - (head - 1) → b ≡ a - length (pairsText pairs) → r ≡ b - length (heightsText heights)
       → r ≡ suc room - length (fileText (stateIn x y pairs heights))
   all-left heights room a b r ea eb er =
-      let l = length-file (stateIn x y pairs heights) in
       let s = head-some in
-      rw (l, ← et) (omega arith)
+      rw (length-file (stateIn x y pairs heights)) (omega arith)
 
 pub ruleset allLaws = (head-some, all-left)
 

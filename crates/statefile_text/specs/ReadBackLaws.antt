@@ -29,13 +29,13 @@ use Rattle.statefile.specs.Lines.{found, return, onward, _>>=_, each, end}
 use Rattle.statefile.specs.StateFile.{State, read, closed, real, wordsOf, moveOf, slots, nodesFor, stateOf, supplied, asked, head, tree, state, stateFile}
 use Rattle.statefile.specs.EachLaws.{each-none}
 use Rattle.statefile.specs.SlotLaws.{tips-long}
-use Rattle.statefile_text.specs.StateText.{kindOf, nodeOf, tuningOf, suppliedText, askedText, nodesText, fileText, FourWords, isReal, FileTree, Writable}
+use Rattle.statefile_text.specs.StateText.{kindOf, nodeOf, tuningOf, suppliedText, askedText, tipsText, nodesText, fileText, FourWords, isReal, FileTree, Writable}
 use Rattle.statefile_text.specs.ReadingLaws.{regroup, rule-then, reader-then, line-then, each-next, fixed-reads, next-reads, entry-reads}
 
 -- ---- numbers and words
 
 module _ (n limit : ℕ) (rest : List ℕ) (few : n ≤ limit) (large : limit < 2 ^ 64) where
-  pub number-reads : (key : List ℕ) → Forms.entry key (decimal limit) (Notation.line key (decimalText n) ++ rest) ≡ parsed n rest
+  number-reads : (key : List ℕ) → Forms.entry key (decimal limit) (Notation.line key (decimalText n) ++ rest) ≡ parsed n rest
   number-reads key = entry-reads n rest (decimal limit) key (decimalText n) (decimal-reads n limit (lineEnd ++ rest) few large refl)
 
 -- the bits of a float
@@ -58,7 +58,9 @@ module _ (l : List ℕ) (w : FourWords l) where
       let y = wordText (getD l 1 0) in
       let z = wordText (getD l 2 0) in
       let v = wordText (getD l 3 0) in
-      ap words (regroup x (bytes ",") (comma y (comma z v)) rest ∙ ap (λ (t : List ℕ). x ++ (bytes "," ++ t)) (regroup y (bytes ",") (comma z v) rest ∙ ap (λ (t : List ℕ). y ++ (bytes "," ++ t)) (regroup z (bytes ",") v rest)))
+      let two : comma z v ++ rest ≡ z ++ (bytes "," ++ (v ++ rest)) = regroup z (bytes ",") v rest in
+      let three : comma y (comma z v) ++ rest ≡ y ++ (bytes "," ++ (comma z v ++ rest)) = regroup y (bytes ",") (comma z v) rest in
+      ap words (regroup x (bytes ",") (comma y (comma z v)) rest ∙ ap (λ (t : List ℕ). x ++ (bytes "," ++ t)) (three ∙ ap (λ (t : List ℕ). y ++ (bytes "," ++ t)) two))
       ∙ rule-then word _ (word-reads (getD l 0 0) _ (w .each 0))
       ∙ rule-then (next word) _ (next-reads _ _ word _ (word-reads (getD l 1 0) _ (w .each 1)))
       ∙ rule-then (next word) _ (next-reads _ _ word _ (word-reads (getD l 2 0) _ (w .each 2)))
@@ -227,7 +229,7 @@ module _ (st : State) (w : Writable st) where
   }
 
   head-reads : (rest : List ℕ)
-      → head 1 (suppliedText (st .allowance) (st .words) ++ (askedText (st .move) ++ (Notation.line (bytes "tips=") (decimalText (tipsOf (nodesOf (st .pairs)))) ++ rest))) ≡ found headIn 8 rest
+      → head 1 (suppliedText (st .allowance) (st .words) ++ (askedText (st .move) ++ (tipsText (st .pairs) ++ rest))) ≡ found headIn 8 rest
   unfolding head tipsLine return
   head-reads rest =
       reader-then supplied _ (supplied-reads (st .allowance) (st .words) (w .draws) (w .generator) _)
@@ -235,7 +237,7 @@ module _ (st : State) (w : Writable st) where
       ∙ rw (tips-are (st .pairs) (st .heights) (w .tree)) (line-then tipsLine _ (number-reads (w .tree .tips) mostElsewhere rest (w .tree .few) (lit< tt) (bytes "tips=")))
 
   parted : fileText st
-      ≡ suppliedText (st .allowance) (st .words) ++ (askedText (st .move) ++ (Notation.line (bytes "tips=") (decimalText (tipsOf (nodesOf (st .pairs)))) ++ (pairsText (st .pairs) ++ heightsText (st .heights))))
+      ≡ suppliedText (st .allowance) (st .words) ++ (askedText (st .move) ++ (tipsText (st .pairs) ++ (pairsText (st .pairs) ++ heightsText (st .heights))))
   unfolding fileText nodesText
   parted = simp append-assoc
 

@@ -1,6 +1,6 @@
--- Rules and readers one after the other: what follows one that has read (`rule-then`, `reader-then`, `line-then`, `each-next`), and what reads back as it was put: a
--- fixed text, a value after a comma, the value of a line (`fixed-reads`, `next-reads`, `entry-reads`); then what was read by readers that have read (`split`, `line-read`, `each-read`).
--- Assumes nothing.
+-- Rules and readers one after the other. What follows one that has read (`rule-then`, `reader-then`, `line-then`, `each-next`); what reads back as it was
+-- put: a fixed text, a value after a comma, the value of a line (`fixed-reads`, `next-reads`, `entry-reads`); and what readers have read (`split`,
+-- `line-read`, `each-read`). Assumes nothing.
 use mathlib.Core.Path.{_≡_, refl, sym, ap, _∙_, subst}
 use mathlib.Core.List.{List, [], _∷_, _++_, append-assoc}
 use Prim.Native.Nat.{ℕ, zero, suc, _+_}

@@ -56,9 +56,13 @@ unfoldable pub askedText : Move → List ℕ
 askedText move =
     line (bytes "move=") (nameOf (kindOf move)) ++ line (bytes "node=") (decimalText (nodeOf move)) ++ line (bytes "tuning=") (bitsText (tuningOf move))
 
--- "tips, one pair per internal node, one height per node"; the tips are those of as many nodes as there are pairs
+-- "tips": those of as many nodes as there are pairs
+abbrev pub tipsText : List ℕ → List ℕ
+tipsText pairs = line (bytes "tips=") (decimalText (tipsOf (nodesOf pairs)))
+
+-- "tips, one pair per internal node, one height per node"
 unfoldable pub nodesText : List ℕ → List Float → List ℕ
-nodesText pairs heights = line (bytes "tips=") (decimalText (tipsOf (nodesOf pairs))) ++ pairsText pairs ++ heightsText heights
+nodesText pairs heights = tipsText pairs ++ pairsText pairs ++ heightsText heights
 
 unfoldable pub fileText : State → List ℕ
 fileText st = suppliedText (st .allowance) (st .words) ++ askedText (st .move) ++ nodesText (st .pairs) (st .heights)

@@ -4,13 +4,13 @@ ghost use mathlib.Core.Path.{_≡_};
 ghost use Prim.Native.Nat.{suc, _+_, _-_};
 ghost use lib.ListN.{length};
 ghost use lib.Ieee.{binary64, toBits};
-ghost use Rattle.text.specs.Text.{bytes, wordText, decimalText};
+ghost use Rattle.text.specs.Text.{bytes, wordText};
 ghost use Rattle.forms.specs.Forms.{nameOf};
 ghost use Rattle.print.specs.Writing.{written, write};
 ghost use Rattle.notation.specs.Notation.{line, stateText, pairsText, heightsText};
 ghost use Rattle.report.specs.Report.{delivery, delivered};
 ghost use Rattle.statefile.specs.StateFile.{wordsOf, moveOf, stateIn};
-ghost use Rattle.statefile_text.specs.StateText.{nodeOf, tuningOf, suppliedText, askedText, nodesText, fileText};
+ghost use Rattle.statefile_text.specs.StateText.{nodeOf, tuningOf, suppliedText, askedText, tipsText, nodesText, fileText};
 use forms::Kind;
 use forms::Words;
 use forms::takes_node;
@@ -165,15 +165,15 @@ fn name_len(kind: Kind) -> usize
 }
 
 // How long lines 1 to 7 are.
-fn head_len(supplied: Supplied, asked: Asked, tips: usize) -> usize
-    ensures { λ r. ⌜ r ≡ length (suppliedText (supplied .draws) (wordsOf (supplied .words))) + length (askedText (moveOf (asked .kind) (asked .node) (asked .tuning))) + length (line (bytes "tips=") (decimalText tips)) ⌝ }
+fn head_len(supplied: Supplied, asked: Asked, pairs: &[u16]) -> usize
+    ensures { λ r. ⌜ r ≡ length (suppliedText (supplied .draws) (wordsOf (supplied .words))) + length (askedText (moveOf (asked .kind) (asked .node) (asked .tuning))) + length (tipsText (now (pairs .entry))) ⌝ }
 {
     let kind = asked.kind;
     133
         + decimal_len(supplied.draws as u64)
         + name_len(kind)
         + decimal_len(node_of(asked) as u64)
-        + decimal_len(tips as u64)
+        + decimal_len(nodes::tips(pairs) as u64)
 }
 
 fn less(room: usize, n: usize) -> usize
@@ -213,13 +213,14 @@ fn less_heights(room: usize, heights: &[f64]) -> usize
 fn less_all(room: usize, supplied: Supplied, asked: Asked, pairs: &[u16], heights: &[f64]) -> usize
     ensures { λ r. ⌜ r ≡ suc room - length (fileText (stateIn supplied asked (now (pairs .entry)) (now (heights .entry)))) ⌝ }
 {
-    let head = head_len(supplied, asked, nodes::tips(pairs));
+    let head = head_len(supplied, asked, pairs);
     less_heights(less_pairs(less(room, head - 1), pairs), heights)
 }
 
 // ---- both
 
-// The text of a state at the start of the slice, and how long it is; 0, with nothing written, where the slice is too short.
+// The text of a state at the start of the slice, and how long it is; 0, with nothing written, where the slice is too short. What the move does not use of
+// `asked` is left out. The text reads back as the state where a file can hold it, which `Writable` says.
 pub fn put_file(
     out: &mut [u8],
     supplied: Supplied,

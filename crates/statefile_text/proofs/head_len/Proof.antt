@@ -28,6 +28,9 @@ decimal-len-requires-2 c κs = search (headLaws, needs)
 add-result-3 : tie.Need-add-result-3
 add-result-3 c = search (headLaws, needs)
 
+tips-requires : tie.Need-tips-requires
+tips-requires c κs = search (headLaws, needs)
+
 decimal-len-requires-3 : tie.Need-decimal-len-requires-3
 decimal-len-requires-3 c κs = search (headLaws, needs)
 
@@ -49,6 +52,7 @@ head-len-spec =
     node-of-requires
     decimal-len-requires-2
     add-result-3
+    tips-requires
     decimal-len-requires-3
     add-result-4
     returns)

@@ -4,9 +4,6 @@ use borrow.Author.Needs.{needs}
 use Rattle.statefile_text.proofs.less_all.Statement.{statement}
 use Rattle.statefile_text.proofs.less_all.Tie as tie
 
-tips-requires : tie.Need-tips-requires
-tips-requires c κs = search (allLaws, needs)
-
 head-len-requires : tie.Need-head-len-requires
 head-len-requires c κs = search (allLaws, needs)
 
@@ -29,7 +26,6 @@ pub less-all-spec : {M : Type 1} → statement M
 less-all-spec =
     tie.close
     (tie.spec
-    tips-requires
     head-len-requires
     sub-less
     less-requires
