@@ -62,8 +62,13 @@ withTips tips l = replicate (2 * tips) noNode ++ slots l
 
 -- what is supplied and what is asked, with a tree's pairs and heights
 abbrev pub stateIn : Supplied → Asked → List ℕ → List Float → State
-stateIn supplied asked pairs heights =
-    record { allowance = supplied .draws; words = wordsOf (supplied .words); move = moveOf (asked .kind) (asked .node) (asked .tuning); pairs = pairs; heights = heights }
+stateIn supplied asked pairs heights = record {
+  allowance = supplied .draws;
+  words = wordsOf (supplied .words);
+  move = moveOf (asked .kind) (asked .node) (asked .tuning);
+  pairs = pairs;
+  heights = heights;
+}
 
 -- what stands before the tree, with a tree
 abbrev pub stateOf : Head → Nodes → State

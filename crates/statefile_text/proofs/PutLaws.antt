@@ -102,7 +102,8 @@ module _ (w a b v : Written) where
   unfolding askedText
   asked-put k n x i t ei et ea eb ev = rw (kind-is k n x, ← ei, ← et) (write-then w b v _ _ (write-then w a b _ _ ea eb) ev)
 
-  pub nodes-put : (pairs : List ℕ) (heights : List Float) (n : ℕ) → n ≡ tipsOf (nodesOf pairs) → a ≡ write w (line (bytes "tips=") (decimalText n)) → b ≡ write a (pairsText pairs)
+  pub nodes-put : (pairs : List ℕ) (heights : List Float) (n : ℕ) → n ≡ tipsOf (nodesOf pairs) → a ≡ write w (line (bytes "tips=") (decimalText n))
+      → b ≡ write a (pairsText pairs)
       → v ≡ write b (heightsText heights) → v ≡ write w (nodesText pairs heights)
   unfolding nodesText
   nodes-put pairs heights n en ea eb ev = rw (← en) (write-then w b v _ _ (write-then w a b _ _ ea eb) ev)

@@ -37,6 +37,7 @@ length-tips pairs = simp length-line (omega arith)
 
 pub length-file : (st : State)
     → length (fileText st)
-    ≡ length (suppliedText (st .allowance) (st .words)) + length (askedText (st .move)) + length (tipsText (st .pairs)) + length (pairsText (st .pairs)) + length (heightsText (st .heights))
+    ≡ length (suppliedText (st .allowance) (st .words)) + length (askedText (st .move)) + length (tipsText (st .pairs))
+    + length (pairsText (st .pairs)) + length (heightsText (st .heights))
 unfolding fileText nodesText
 length-file st = simp length-append (omega arith)

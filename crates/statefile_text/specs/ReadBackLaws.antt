@@ -128,7 +128,8 @@ node-within wilsonBalding h = omega arith
 node-within (rootScale tuning) h = omega arith
 node-within (treeScale tuning) h = omega arith
 
-node-reads : (m : Move) (rest : List ℕ) → nodeOf m ≤ mostNodes → nodeLine (kindOf m) (Notation.line (bytes "node=") (decimalText (nodeOf m)) ++ rest) ≡ parsed (nodeOf m) rest
+node-reads : (m : Move) (rest : List ℕ) → nodeOf m ≤ mostNodes
+    → nodeLine (kindOf m) (Notation.line (bytes "node=") (decimalText (nodeOf m)) ++ rest) ≡ parsed (nodeOf m) rest
 unfolding nodeLine
 node-reads m rest few = number-reads (nodeOf m) (most (kindOf m)) rest (node-within m few) (most-large (kindOf m)) (bytes "node=")
 
@@ -167,7 +168,8 @@ pair-reads a b rest ha hb =
     entry-reads (a, b) rest _ (bytes "pair=") (comma x y)
     (rw (regroup x (bytes ",") y (lineEnd ++ rest))
     (rule-then (decimal mostNodes) _ (decimal-reads a mostNodes (bytes "," ++ (y ++ (lineEnd ++ rest))) ha (lit< tt) refl)
-    ∙ rule-then (next (decimal mostNodes)) _ (next-reads b (lineEnd ++ rest) (decimal mostNodes) (y ++ (lineEnd ++ rest)) (decimal-reads b mostNodes (lineEnd ++ rest) hb (lit< tt) refl))))
+    ∙ rule-then (next (decimal mostNodes)) _
+    (next-reads b (lineEnd ++ rest) (decimal mostNodes) (y ++ (lineEnd ++ rest)) (decimal-reads b mostNodes (lineEnd ++ rest) hb (lit< tt) refl))))
 
 -- the pairs of the nodes from j on
 pairs-read : (l : List (ℕ × ℕ)) (pairs : List ℕ) (j k : ℕ) (rest : List ℕ) → drop (j + j) pairs ≡ slots l → ((i : ℕ) → getD (slots l) i 0 ≤ mostNodes)
@@ -175,14 +177,17 @@ pairs-read : (l : List (ℕ × ℕ)) (pairs : List ℕ) (j k : ℕ) (rest : List
 unfolding pairLines slots
 pairs-read [] pairs j k rest d h = each-none pairLine k rest ∙ ap (λ (i : ℕ). found [] i rest) (sym (add-zero k))
 pairs-read ((a, b) ∷ l) pairs j k rest d h =
-    let first : getD pairs (j + j) 0 ≡ a = ap (λ (i : ℕ). getD pairs i 0) (sym (add-zero (j + j))) ∙ sym (getD-drop (j + j) pairs 0 0) ∙ ap (λ (m : List ℕ). getD m 0 0) d in
-    let second : getD pairs (suc (j + j)) 0 ≡ b = ap (λ (i : ℕ). getD pairs i 0) (sym (add-one (j + j))) ∙ sym (getD-drop (j + j) pairs 1 0) ∙ ap (λ (m : List ℕ). getD m 1 0) d in
+    let first : getD pairs (j + j) 0 ≡ a = ap (λ (i : ℕ). getD pairs i 0) (sym (add-zero (j + j)))
+    ∙ sym (getD-drop (j + j) pairs 0 0) ∙ ap (λ (m : List ℕ). getD m 0 0) d in
+    let second : getD pairs (suc (j + j)) 0 ≡ b = ap (λ (i : ℕ). getD pairs i 0) (sym (add-one (j + j)))
+    ∙ sym (getD-drop (j + j) pairs 1 0) ∙ ap (λ (m : List ℕ). getD m 1 0) d in
     let on : suc j + suc j ≡ j + j + 2 = omega arith in
     let others : drop (suc j + suc j) pairs ≡ slots l = ap (λ (i : ℕ). drop i pairs) on ∙ sym (drop-drop 2 (j + j) pairs) ∙ ap (drop 2) d in
     rw (first, second, append-assoc)
     (each-next pairLine (length l) k (pair-reads a b _ (h 0) (h 1)) (pairs-read l pairs (suc j) (suc k) rest others (λ i. h (suc (suc i)))))
 
-heights-read : (xs : List Float) (k : ℕ) → ((i : ℕ) → isReal (getD xs i nan)) → each (length xs) heightLine k (heightsText xs) ≡ found (map (toBits binary64) xs) (k + length xs) []
+heights-read : (xs : List Float) (k : ℕ) → ((i : ℕ) → isReal (getD xs i nan))
+    → each (length xs) heightLine k (heightsText xs) ≡ found (map (toBits binary64) xs) (k + length xs) []
 unfolding heightsText heightLine
 heights-read [] k h = each-none heightLine k [] ∙ ap (λ (i : ℕ). found [] i []) (sym (add-zero k))
 heights-read (x ∷ xs) k h =
@@ -210,12 +215,16 @@ module _ (pairs : List ℕ) (heights : List Float) (t : FileTree pairs heights) 
   after-tips : drop (t .tips + t .tips) pairs ≡ slots (t .internal)
   after-tips =
       let e : 2 * t .tips ≡ t .tips + t .tips = omega arith in
-      ap (drop (t .tips + t .tips)) (t .are) ∙ drop-at (replicate (2 * t .tips) noNode) (slots (t .internal)) (t .tips + t .tips) (length-replicate {A = ℕ} (2 * t .tips) noNode ∙ e)
+      ap (drop (t .tips + t .tips)) (t .are)
+      ∙ drop-at (replicate (2 * t .tips) noNode) (slots (t .internal)) (t .tips + t .tips) (length-replicate {A = ℕ} (2 * t .tips) noNode ∙ e)
 
-  tree-reads : tree (t .tips) 8 (pairsText pairs ++ heightsText heights) ≡ found (record { pairs = pairs; heights = heights }) (8 + length (t .internal) + length heights) []
+  tree-reads : tree (t .tips) 8 (pairsText pairs ++ heightsText heights)
+      ≡ found (record { pairs = pairs; heights = heights }) (8 + length (t .internal) + length heights) []
   unfolding tree end return onward _>>=_
   tree-reads =
-      rw (← t .count, ← t .nodes, pairs-are, pairs-read (t .internal) pairs (t .tips) 8 (heightsText heights) after-tips (t .small), heights-read heights (8 + length (t .internal)) (t .dated))
+      let ps = pairs-read (t .internal) pairs (t .tips) 8 (heightsText heights) after-tips (t .small) in
+      let hs = heights-read heights (8 + length (t .internal)) (t .dated) in
+      rw (← t .count, ← t .nodes, pairs-are, ps, hs)
       (λ i. found (record { pairs = sym (t .are) i; heights = heights-back heights (t .dated) i }) (8 + length (t .internal) + length heights) [])
 
 -- ---- the whole file
@@ -234,7 +243,8 @@ module _ (st : State) (w : Writable st) where
   head-reads rest =
       reader-then supplied _ (supplied-reads (st .allowance) (st .words) (w .draws) (w .generator) _)
       ∙ reader-then asked _ (asked-reads (st .move) (w .node) (w .tuning) _)
-      ∙ rw (tips-are (st .pairs) (st .heights) (w .tree)) (line-then tipsLine _ (number-reads (w .tree .tips) mostElsewhere rest (w .tree .few) (lit< tt) (bytes "tips=")))
+      ∙ rw (tips-are (st .pairs) (st .heights) (w .tree))
+      (line-then tipsLine _ (number-reads (w .tree .tips) mostElsewhere rest (w .tree .few) (lit< tt) (bytes "tips=")))
 
   parted : fileText st
       ≡ suppliedText (st .allowance) (st .words) ++ (askedText (st .move) ++ (tipsText (st .pairs) ++ (pairsText (st .pairs) ++ heightsText (st .heights))))
@@ -243,7 +253,13 @@ module _ (st : State) (w : Writable st) where
 
   -- the head with the tree
   whole : stateOf headIn (record { pairs = st .pairs; heights = st .heights }) ≡ st
-  whole = λ i. record { allowance = st .allowance; words = four-words (st .words) (w .generator .four) i; move = parts (st .move) i; pairs = st .pairs; heights = st .heights }
+  whole = λ i. record {
+    allowance = st .allowance;
+    words = four-words (st .words) (w .generator .four) i;
+    move = parts (st .move) i;
+    pairs = st .pairs;
+    heights = st .heights;
+  }
 
   pub read-back : stateFile (fileText st) ≡ read st
   unfolding stateFile state return onward _>>=_

@@ -48,7 +48,8 @@ module _ {A : Type 0} (a : A) (rest : List ℕ) where
     unfolding next
     next-reads s e = rule-then (literal (bytes ",")) _ (literal-reads (bytes ",") s) ∙ e
 
-    pub entry-reads : (key value : List ℕ) → rule (value ++ (lineEnd ++ rest)) ≡ parsed a (lineEnd ++ rest) → entry key rule (Notation.line key value ++ rest) ≡ parsed a rest
+    pub entry-reads : (key value : List ℕ) → rule (value ++ (lineEnd ++ rest)) ≡ parsed a (lineEnd ++ rest)
+        → entry key rule (Notation.line key value ++ rest) ≡ parsed a rest
     unfolding entry Notation.line
     entry-reads key value e =
         ap (entry key rule) (regroup key value lineEnd rest)
@@ -104,4 +105,5 @@ module _ {A : Type 0} (rule : Rule A) (Has : A → Type 0) (has : (s : List ℕ)
       let a = split (line rule) _ e in
       let m = split (each n rule) _ (a .second) in
       let r = each-read n (a .at) (a .after) (m .first) in
-      subst (λ (l : List A). (length l ≡ suc n) × Every Has l) (same-found (m .second)) (ap suc (r .0), (has s (a .value) (a .after) (line-read rule k (a .first)), r .1))
+      subst (λ (l : List A). (length l ≡ suc n) × Every Has l) (same-found (m .second))
+      (ap suc (r .0), (has s (a .value) (a .after) (line-read rule k (a .first)), r .1))
