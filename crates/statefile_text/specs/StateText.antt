@@ -67,7 +67,7 @@ nodesText pairs heights = tipsText pairs ++ pairsText pairs ++ heightsText heigh
 unfoldable pub fileText : State → List ℕ
 fileText st = suppliedText (st .allowance) (st .words) ++ askedText (st .move) ++ nodesText (st .pairs) (st .heights)
 
--- ---- what a file can hold
+-- ---- what a file can hold; a list read past its end gives 0, or nan, which are within every limit
 
 -- words of 64 bits, four of them
 pub record FourWords (words : List ℕ) : Type 0 where
@@ -89,7 +89,7 @@ pub record FileTree (pairs : List ℕ) (heights : List Float) : Type 0 where
   pub nodes : length heights ≡ nodesFor tips
   pub dated : (i : ℕ) → isReal (getD heights i nan)
 
--- each number is within its line's limit: "a number over 65,535 in a pair or node line or over 2^32 − 1 elsewhere" has none
+-- the states that files hold: none has "a number over 65,535 in a pair or node line or over 2^32 − 1 elsewhere"
 pub record Writable (st : State) : Type 0 where
   pub draws : st .allowance ≤ mostElsewhere
   pub generator : FourWords (st .words)
