@@ -107,7 +107,7 @@ pub fn read_tips(s: &[u8], at: usize) -> Number
     read_number_line(s, at, b"tips=", 4294967295)
 }
 
-fn takes_node(kind: Kind) -> bool
+pub fn takes_node(kind: Kind) -> bool
     ensures { λ r. ⌜ r ≡ takesNode kind ⌝ }
 {
     match kind {
@@ -121,7 +121,7 @@ fn takes_node(kind: Kind) -> bool
     }
 }
 
-fn takes_tuning(kind: Kind) -> bool
+pub fn takes_tuning(kind: Kind) -> bool
     ensures { λ r. ⌜ r ≡ takesTuning kind ⌝ }
 {
     match kind {

@@ -17,9 +17,9 @@ use Rattle.answer.specs.declared.Ratio.the-variants as Ratios
 use Rattle.text.specs.Text.{decimalText}
 use Rattle.print.specs.NumberLaws.{digits-few}
 use Rattle.notation.specs.Notation.{negative, signedText, ratioText, pairLine, pairLines, pairsText}
+use Rattle.notation.specs.NotationLaws.{next-pair}
 use Rattle.notation.specs.LengthLaws.{length-signed, signed-few, length-counts, length-lengths, length-power, length-pair, pairs-text-few}
 use Rattle.notation.proofs.SignLaws.{read}
-use Rattle.notation.proofs.PutLaws.{next-pair}
 
 -- ---- sums fit
 

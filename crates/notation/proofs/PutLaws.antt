@@ -1,8 +1,8 @@
 -- The ways through the code that writes values and lines. w is what was written before, v what is written in the end. Assumes nothing.
 use mathlib.Core.Path.{_≡_, refl, sym, ap, _∙_}
 use mathlib.Core.Bool.{Bool, true, false}
-use mathlib.Core.List.{List, [], _∷_, _++_}
-use Prim.Native.Nat.{ℕ, zero, suc, _+_, _-_, _/_, _≤_, _<_}
+use mathlib.Core.List.{List}
+use Prim.Native.Nat.{ℕ, _+_, _-_, _/_, _≤_, _<_}
 use native.Mathlib.Numerals.{add-one}
 use native.Mathlib.Omega.{arith}
 use lib.IntN.{ℤ, natAbs}
@@ -18,9 +18,8 @@ use Rattle.text.specs.Text.{bytes, wordText, decimalText}
 use Rattle.print.specs.Writing.{Written, written, writeByte, write}
 use Rattle.print.specs.WritingLaws.{write-append, write-then}
 use Rattle.tree.specs.Tree.{firstIn, secondIn}
-use Rattle.tree.specs.PlaceLaws.{next-place}
 use Rattle.notation.specs.Notation.{line, comma, bitsText, negative, signedText, stateText, ratioText, pairLine, pairLines, pairsText, heightLine, heightsText}
-use Rattle.notation.specs.NotationLaws.{write-comma, comma-put, line-put}
+use Rattle.notation.specs.NotationLaws.{write-comma, comma-put, line-put, next-pair}
 use Rattle.notation.proofs.SignLaws.{read}
 
 -- ---- values
@@ -87,13 +86,6 @@ module _ (w a v : Written) (r : Ratio) where
 pub ruleset ratioLaws = (ratio-even, ratio-counts, ratio-lengths, ratio-power)
 
 -- ---- the pairs, of which those from node k on are left
-
-pub next-pair : (n k : ℕ) (pairs : List ℕ) → k < n
-    → pairLines (n - k) k pairs ≡ pairLine (getD pairs (k + k) 0) (getD pairs (k + k + 1) 0) ++ pairLines (n - (k + 1)) (k + 1) pairs
-unfolding pairLines
-next-pair n k pairs h =
-    let e : n - k ≡ suc (n - (k + 1)) = omega arith in
-    rw (e, next-place pairs k, add-one k)
 
 pub pairs-start : (pairs : List ℕ) (w : Written)
     → write w (pairLines (length pairs / 2 - (length pairs / 2 - length pairs / 2 / 2)) (length pairs / 2 - length pairs / 2 / 2) pairs) ≡ write w (pairsText pairs)

@@ -185,7 +185,7 @@ pub fn ratio_len(ratio: Ratio) -> usize
     }
 }
 
-fn pair_len(a: u16, b: u16) -> usize
+pub fn pair_len(a: u16, b: u16) -> usize
     ensures { λ r. ⌜ r ≡ length (pairLine a b) ⌝ }
 {
     7 + decimal_len(a as u64) + decimal_len(b as u64)

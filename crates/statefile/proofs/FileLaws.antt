@@ -4,20 +4,19 @@ use mathlib.Core.Path.{_≡_, refl, sym, ap, _∙_, subst}
 use mathlib.Core.List.{List, [], _∷_, _++_, map}
 use Prim.Native.Nat.{ℕ, suc, _+_, _-_, _*_, _≤_, _<_}
 use native.Mathlib.Omega.{arith}
-use lib.ListN.{length, take, drop, replicate, length-append, length-map, length-replicate, drop-of-length-le}
+use lib.ListN.{length, take, drop, length-map, drop-of-length-le}
 use lib.Seq.{drop-cons, take-at}
 use lib.Ieee.{Float}
-use Rattle.tree.specs.Tree.{noNode}
 use Rattle.forms.specs.Forms.{pairLine, heightLine}
 use Rattle.statefile.specs.Lines.{Found, wrong, found, return, onward, _>>=_, each, end}
-use Rattle.statefile.specs.StateFile.{Nodes, head, tree, state, stateFile, faulty, slots, withTips, real, nodesFor}
+use Rattle.statefile.specs.StateFile.{Nodes, head, tree, state, stateFile, faulty, withTips, real, nodesFor}
+use Rattle.statefile.specs.SlotLaws.{tips-long}
 use Rattle.statefile.specs.Given.{headGiven, planted, Planted, Stored, heightsStored, grown, Grown, Held}
 use Rattle.statefile.specs.declared.Head.{Head}
 use Rattle.statefile.specs.declared.HeadRead.{HeadRead}
 use Rattle.statefile.specs.declared.HeadRead.the-variants as HeadReads
 use Rattle.statefile.specs.declared.LinesRead.{LinesRead}
 use Rattle.statefile.specs.declared.LinesRead.the-variants.{Upto, Wrong}
-use Rattle.statefile.proofs.FillLaws.{pairs-long}
 
 -- ---- a tree
 
@@ -73,7 +72,7 @@ module _ (tips at : ℕ) (s p₀ : List ℕ) (h₀ : List Float) (r : LinesRead)
         rest = [];
         is = reads ∙ ap (λ (t : List ℕ). onward (end (8 + n + c) t) (λ _. return nodes)) (drop-of-length-le s l);
         shown = record {
-          places = length-append (replicate (2 * tips) noNode) (slots (plants .values)) ∙ (λ i. length-replicate {A = ℕ} (2 * tips) noNode i + pairs-long (plants .values) i) ∙ ap (λ (y : ℕ). 2 * tips + 2 * y) (plants .long) ∙ omega arith;
+          places = tips-long tips (plants .values) (plants .long);
           nodes = long;
           pairsHeld = plants .held;
           heightsHeld = first;

@@ -20,6 +20,7 @@ use Rattle.forms.specs.declared.Pair.{Pair}
 use Rattle.forms.specs.declared.Pair.the-variants as Pairs
 use Rattle.statefile.specs.Lines.{Found, wrong, found, each}
 use Rattle.statefile.specs.StateFile.{slots, withTips, real, nodesFor}
+use Rattle.statefile.specs.SlotLaws.{slots-long}
 use Rattle.statefile.specs.EachLaws.{after, after-none, after-after, each-none, each-wrong, each-more}
 use Rattle.statefile.specs.Given.{Stored, stored, pairsStored, heightsStored, Marked, Planted, planted}
 use Rattle.statefile.specs.declared.LinesRead.{LinesRead}
@@ -112,14 +113,9 @@ unfolding slots
 pairs-more [] (a, b) = refl
 pairs-more ((c, d) ∷ l) x = ap (λ (m : List ℕ). c ∷ d ∷ m) (pairs-more l x)
 
-pub pairs-long : (l : List (ℕ × ℕ)) → length (slots l) ≡ 2 * length l
-unfolding slots
-pairs-long [] = refl
-pairs-long ((a, b) ∷ l) = let e = pairs-long l in omega arith
-
 pairs-put : Putting slots 2
 unfolding slots
-pairs-put = record { nothing = refl; more = pairs-more; long = pairs-long }
+pairs-put = record { nothing = refl; more = pairs-more; long = slots-long }
 
 pairs-joined : (p : List ℕ) (l : List (ℕ × ℕ)) (a b : ℕ) → ((p ++ slots l) ++ a ∷ []) ++ b ∷ [] ≡ p ++ slots (l ++ (a, b) ∷ [])
 unfolding slots
@@ -154,7 +150,7 @@ module _ (count first at : ℕ) (s : List ℕ) (from : ℕ) (out₀ : List ℕ) 
               let room : n < length out₀ = omega arith in
               let room′ : n + 1 < length out₀ = omega arith in
               let q = take from out₀ ++ slots (f .values) in
-              let long : length q ≡ n = length-append (take from out₀) (slots (f .values)) ∙ (λ i. length-take-le from out₀ (omega arith) i + pairs-long (f .values) i) ∙ ap (λ (x : ℕ). from + 2 * x) (f .long) ∙ twice in
+              let long : length q ≡ n = length-append (take from out₀) (slots (f .values)) ∙ (λ i. length-take-le from out₀ (omega arith) i + slots-long (f .values) i) ∙ ap (λ (x : ℕ). from + 2 * x) (f .long) ∙ twice in
               let long′ : length (q ++ a ∷ []) ≡ n + 1 = length-append q (a ∷ []) ∙ ap (λ (x : ℕ). x + 1) long in
               let was : out ≡ q ++ drop n out₀ = f .held (omega arith) ∙ ap (λ (x : ℕ). q ++ drop x out₀) twice in
               let one : set out n a ≡ (q ++ a ∷ []) ++ drop (n + 1) out₀ = ap (λ (x : List ℕ). set x n a) was ∙ store-next q out₀ n a long room in
@@ -252,7 +248,7 @@ module _ (tips at : ℕ) (s out₀ out₁ out : List ℕ) (from count : ℕ) (m 
           let marks : take from out₁ ≡ replicate from noNode = ap (take from) was ∙ take-at (replicate from noNode) (drop from out₀) from (length-replicate {A = ℕ} from noNode) in
           let is : out ≡ (replicate from noNode ++ slots (p .values)) ++ drop (from + 2 * count) out₁ = p .held (omega (arith, m .same)) ∙ ap (λ (x : List ℕ). (x ++ slots (p .values)) ++ drop (from + 2 * count) out₁) marks in
           let long : length (replicate from noNode ++ slots (p .values)) ≡ 2 * nodesFor tips
-          = length-append (replicate from noNode) (slots (p .values)) ∙ (λ i. length-replicate {A = ℕ} from noNode i + pairs-long (p .values) i) ∙ ap (λ (x : ℕ). from + 2 * x) (p .long) ∙ all in
+          = length-append (replicate from noNode) (slots (p .values)) ∙ (λ i. length-replicate {A = ℕ} from noNode i + slots-long (p .values) i) ∙ ap (λ (x : ℕ). from + 2 * x) (p .long) ∙ all in
           ap (take (2 * nodesFor tips)) is ∙ take-at (replicate from noNode ++ slots (p .values)) (drop (from + 2 * count) out₁) (2 * nodesFor tips) long ∙ ap (λ (x : ℕ). replicate x noNode ++ slots (p .values)) twice
 
 pub ruleset plantLaws = (plants)

@@ -1,5 +1,6 @@
 pub mod Lines
 pub mod StateFile
 pub mod EachLaws
+pub mod SlotLaws
 pub mod Given
 pub mod Rows

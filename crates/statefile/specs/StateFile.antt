@@ -60,12 +60,19 @@ slots ((a, b) ∷ l) = a ∷ b ∷ slots l
 abbrev pub withTips : ℕ → List (ℕ × ℕ) → List ℕ
 withTips tips l = replicate (2 * tips) noNode ++ slots l
 
+-- what is supplied and what is asked, with a tree's pairs and heights
+abbrev pub stateIn : Supplied → Asked → List ℕ → List Float → State
+stateIn supplied asked pairs heights = record {
+  allowance = supplied .draws;
+  words = wordsOf (supplied .words);
+  move = moveOf (asked .kind) (asked .node) (asked .tuning);
+  pairs = pairs;
+  heights = heights;
+}
+
 -- what stands before the tree, with a tree
 abbrev pub stateOf : Head → Nodes → State
-stateOf h t =
-    let supplied = h .supplied in
-    let asked = h .asked in
-    record { allowance = supplied .draws; words = wordsOf (supplied .words); move = moveOf (asked .kind) (asked .node) (asked .tuning); pairs = t .pairs; heights = t .heights }
+stateOf h t = stateIn (h .supplied) (h .asked) (t .pairs) (t .heights)
 
 -- ---- how it is read
 

@@ -1,0 +1,3 @@
+-- The laws that the proofs of statefile_text share.
+mod PutLaws
+mod RoomLaws
