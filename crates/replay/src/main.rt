@@ -27,15 +27,15 @@ pub enum Span {
     Malformed,
 }
 
-// What comes of a case: the answer is the one stored, and the case ends at a place; it differs at a byte; or the case is not of its form.
+// What comes of a case: the answer is the one stored, and the case ends at a place; the answer differs at a place; or the case is not of its form.
 pub enum Step {
     Alike(usize),
     Differs(usize),
     Malformed,
 }
 
-// What comes of the data: so many cases, all alike; the number from 1 of the first case that differs, and the byte of its answer; or after how many cases
-// the data is not of its form.
+// What comes of the data: so many cases, all alike; the first case that differs, by its number from 1, and the place in its answer; or after how many
+// cases the data is not of its form.
 pub enum Outcome {
     Alike(usize),
     Differs(usize, usize),
@@ -159,9 +159,9 @@ fn print(outcome: Outcome) {
         Outcome::Differs(case, place) => {
             text(b"case ");
             number(case as u64);
-            text(b": the answer differs from the one stored at byte ");
+            text(b" differs: its answer is the one stored for ");
             number(place as u64);
-            text(b"\n");
+            text(b" bytes only\n");
         }
         Outcome::Malformed(count) => {
             text(b"the data is not of its form after ");
