@@ -1,26 +1,24 @@
--- The ways through the code that replays: two texts compared (`compareLaws`), a file answered (`fileLaws`), a text of the data (`textLaws`), a case
--- (`caseLaws`), and all cases (`casesLaws`, `allLaws`). Assumes nothing.
+-- The ways through the code that replays: two texts compared (`compareLaws`), a file answered (`fileLaws`), a text of the data (`textLaws`, `placeLaws`),
+-- a case (`caseLaws`), and all cases (`casesLaws`, `allLaws`). Assumes nothing.
 use mathlib.Core.Path.{_≡_, refl, sym, ap, _∙_, subst}
-use mathlib.Core.Bool.{Bool, true, false, cond}
-use mathlib.Core.List.{List, [], _∷_, _++_}
-use Prim.Native.Nat.{ℕ, zero, suc, _+_, _-_, _≤_, _<_}
+use mathlib.Core.List.{List, _++_}
+use Prim.Native.Nat.{ℕ, suc, _+_, _-_, _≤_, _<_}
 use native.Mathlib.Decide.{decLt}
 use native.Mathlib.Nat.{sub-zero}
 use native.Mathlib.Numerals.{add-one}
 use native.Mathlib.Omega.{arith}
-use lib.Dec.{ltb}
 use lib.ListN.{length, take, drop, getD, drop-of-length-le, length-append, length-drop}
 use lib.Seq.{drop-cons, drop-drop, getD-drop, take-at, length-take-le}
 use borrow.Author.Tests.{eq-eqb, ne-eqb, lt-ltb, le-ltb}
 use Rattle.text.specs.Text.{bytes, lineEnd}
-use Rattle.text.specs.Rules.{Parsed, malformed, parsed, return, onward, _>>=_, literal, fixed, decimal}
+use Rattle.text.specs.Rules.{malformed, parsed, return, onward, _>>=_, literal, fixed, decimal}
 use Rattle.text.specs.Places.{numbered}
 use Rattle.text.specs.declared.Number.{Number}
 use Rattle.text.specs.declared.Number.the-variants as Number
 use Rattle.forms.specs.Forms.{entry, mostElsewhere}
 use Rattle.report.specs.Report.{Delivery, delivery, delivered}
 use Rattle.respond.specs.Respond.{fileReply}
-use Rattle.replay.specs.Replay.{taken, counted, case, casesLine, compared, within, Judged, replayCase, proceed, outcome, replayed}
+use Rattle.replay.specs.Replay.{taken, counted, case, casesLine, compared, within, replayCase, proceed, outcome, replayed}
 use Rattle.replay.specs.Given.{texted, Inside, stepped}
 use Rattle.replay.specs.declared.Compared.{Compared}
 use Rattle.replay.specs.declared.Compared.the-variants as Compared
@@ -143,8 +141,18 @@ module _ (s key t : List ℕ) (r : Number) (e : numbered s r ≡ entry key (deci
 
 pub ruleset textLaws = (text-unread, text-past, text-cut, text-open, text-there)
 
-pub text-inside : (s : List ℕ) (r : Span) (a b : ℕ) → Inside s r → r ≡ Span.Between a b → (a ≤ b) × (b < length s)
-text-inside s r a b h e = subst (Inside s) e h
+-- where it starts and ends
+module _ (s : List ℕ) (r : Span) (a b : ℕ) (h : Inside s r) (e : r ≡ Span.Between a b) where
+  pub text-inside : (a ≤ b) × (b < length s)
+  text-inside = subst (Inside s) e h
+
+  pub text-start : a ≤ b
+  text-start = text-inside .0
+
+  pub text-end : b ≤ length s
+  text-end = omega (arith, text-inside)
+
+pub ruleset placeLaws = (text-start, text-end)
 
 -- ---- a case: f and g are where its file and its answer stand
 

@@ -1,5 +1,5 @@
 -- What it says that two texts compare as alike: they are one text, and a case that is alike and has an answer has the answer of its file. Assumes nothing.
-use mathlib.Core.Path.{_≡_, refl, sym, ap, _∙_}
+use mathlib.Core.Path.{_≡_, refl, sym}
 use mathlib.Core.Bool.{Bool, true, false, cond}
 use mathlib.Core.List.{List, [], _∷_}
 use Prim.Native.Nat.{ℕ, suc}
@@ -10,7 +10,6 @@ use lib.ListN.{length}
 use borrow.Author.Tests.{eq-eqb, ne-eqb}
 use Rattle.respond.specs.Respond.{fileReply}
 use Rattle.replay.specs.Replay.{Case, compared, within, comparedCase}
-use Rattle.replay.specs.declared.Compared.{Compared}
 use Rattle.replay.specs.declared.Compared.the-variants.{Alike, Differ}
 
 differ-not-alike : {A : Type 0} {i : ℕ} → Differ i ≡ Alike → A

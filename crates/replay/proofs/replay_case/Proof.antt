@@ -1,7 +1,7 @@
 -- `replay::replay_case` meets its contract. Assumes nothing.
 use native.Mathlib.Omega.{arith}
 use borrow.Author.Needs.{needs}
-use Rattle.replay.proofs.ReplayLaws.{text-inside, caseLaws}
+use Rattle.replay.proofs.ReplayLaws.{text-inside, placeLaws, caseLaws}
 use Rattle.replay.proofs.replay_case.Statement.{statement}
 use Rattle.replay.proofs.replay_case.Tie as tie
 
@@ -39,22 +39,22 @@ returns-2 : tie.Need-returns-2
 returns-2 c = search (caseLaws, needs)
 
 sub-replay-file : tie.Need-sub-replay-file
-sub-replay-file c = omega (arith, text-inside _ _ _ _ (c .before .before .before .before .before .before .before .before .read-text .ensures .1) (c .before .before .before .before .before .before .a .given .1))
+sub-replay-file c = search (placeLaws, needs)
 
 part-replay-file-start : tie.Need-part-replay-file-start
-part-replay-file-start c = omega (arith, text-inside _ _ _ _ (c .before .before .before .before .before .before .before .before .read-text .ensures .1) (c .before .before .before .before .before .before .a .given .1))
+part-replay-file-start c = search (placeLaws, needs)
 
 part-replay-file-end : tie.Need-part-replay-file-end
-part-replay-file-end c = omega (arith, text-inside _ _ _ _ (c .before .before .before .before .before .before .before .before .read-text .ensures .1) (c .before .before .before .before .before .before .a .given .1))
+part-replay-file-end c = search (placeLaws, needs)
 
 sub-replay-file-2 : tie.Need-sub-replay-file-2
-sub-replay-file-2 c = omega (arith, text-inside _ _ _ _ (c .before .before .before .before .read-text2 .ensures .1) (c .before .before .c .given .1))
+sub-replay-file-2 c = search (placeLaws, needs)
 
 part-replay-file-start-2 : tie.Need-part-replay-file-start-2
-part-replay-file-start-2 c = omega (arith, text-inside _ _ _ _ (c .before .before .before .before .read-text2 .ensures .1) (c .before .before .c .given .1))
+part-replay-file-start-2 c = search (placeLaws, needs)
 
 part-replay-file-end-2 : tie.Need-part-replay-file-end-2
-part-replay-file-end-2 c = omega (arith, text-inside _ _ _ _ (c .before .before .before .before .read-text2 .ensures .1) (c .before .before .c .given .1))
+part-replay-file-end-2 c = search (placeLaws, needs)
 
 replay-file-requires : tie.Need-replay-file-requires
 replay-file-requires c κs = search needs
