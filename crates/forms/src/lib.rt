@@ -60,7 +60,7 @@ fn end_line(s: &[u8], n: Number) -> Number
     Number::Value(v, e)
 }
 
-fn read_number_line(s: &[u8], at: usize, key: &[u8], limit: u32) -> Number
+pub fn read_number_line(s: &[u8], at: usize, key: &[u8], limit: u32) -> Number
     ensures { λ r. ⌜ numbered (now (s .entry)) r ≡ entry (now (key .entry)) (decimal limit) (drop at (now (s .entry))) ⌝ }
 {
     let Place::At(i) = text::read_literal(s, at, key) else {

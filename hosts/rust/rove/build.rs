@@ -4,13 +4,7 @@
 use std::env;
 use std::path::PathBuf;
 
-/// The archives, each with the part of the wrapper that needs it.
-const ARCHIVES: [(&str, &str); 4] = [
-    ("rove", "moves"),
-    ("rove_unvalidated", "unvalidated"),
-    ("rove_answer", "answer"),
-    ("rove_parameters", "parameters"),
-];
+const ARCHIVES: [&str; 4] = ["rove", "rove_unvalidated", "rove_answer", "rove_parameters"];
 
 fn main() {
     println!("cargo:rerun-if-env-changed=ROVE_ARCHIVES");
@@ -20,15 +14,12 @@ fn main() {
             .join("../../../target/staticlib"),
     };
     println!("cargo:rustc-link-search=native={}", folder.display());
-    for (archive, part) in ARCHIVES {
+    for archive in ARCHIVES {
         let path = folder.join(format!("lib{archive}.a"));
         println!("cargo:rerun-if-changed={}", path.display());
-        println!("cargo:rustc-check-cfg=cfg({part})");
-        if path.exists() {
-            println!("cargo:rustc-link-lib=static={archive}");
-            println!("cargo:rustc-cfg={part}");
-        } else {
-            println!("cargo:warning={} is not there", path.display());
+        println!("cargo:rustc-link-lib=static={archive}");
+        if !path.exists() {
+            println!("cargo::error={} is not there; `rt staticlib {archive}` writes it", path.display());
         }
     }
 }

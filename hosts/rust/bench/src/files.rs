@@ -9,9 +9,6 @@ use std::fmt::Write;
 use std::hint::black_box;
 
 pub fn table() {
-    if !exports::ANSWER {
-        return;
-    }
     println!("\n| state file | nodes | plain Rust, ns | port | port over Rust |");
     println!("|---|---|---|---|---|");
     for (tips, times) in [(16, 2000), (101, 400), (2048, 20)] {

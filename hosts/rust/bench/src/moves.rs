@@ -28,11 +28,10 @@ pub fn table() {
 fn ways(kind: Kind, tips: usize, times: usize) -> Vec<Way<'static>> {
     let sample = Sample::plain(&mut Chance::new(SEED), tips);
     let (rust, port) = (rust_tree(&sample), port_tree(&sample));
-    let unvalidated = rove::exports::UNVALIDATED;
     let (rust_too, port_too) = (rust.clone(), port.clone());
     vec![
         Box::new(move || rust_way(kind, rust.clone(), times, false)),
-        Box::new(move || port_way(kind, port.clone(), times, unvalidated)),
+        Box::new(move || port_way(kind, port.clone(), times, true)),
         Box::new(move || rust_way(kind, rust_too.clone(), times, true)),
         Box::new(move || port_way(kind, port_too.clone(), times, false)),
     ]

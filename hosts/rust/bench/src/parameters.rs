@@ -15,9 +15,6 @@ use std::hint::black_box;
 const STATE: [u64; 4] = [1, 2, 3, 4];
 
 pub fn table() {
-    if !rove::exports::PARAMETERS {
-        return;
-    }
     println!(
         "\n| call | of | Rust, ns | Rust with checks | port | port over Rust | port over Rust with checks |"
     );

@@ -22,19 +22,24 @@ pub fn in_form(text: &[u8], file: &Result<StateFile, u64>) -> Result<(), String>
     answer(&mut lines, file).map_err(|line| format!("line {line} is not of an answer's form"))
 }
 
+enum Word {
+    Moved,
+    Declined,
+    Refused,
+}
+
 fn answer(lines: &mut Lines, file: &StateFile) -> Result<(), u64> {
-    let most = file.draws;
     let word = lines.take("answer", |text| match text {
-        b"moved" => Some(true),
-        b"declined" => Some(false),
-        text => refusal(text).then_some(false),
+        b"moved" => Some(Word::Moved),
+        b"declined" => Some(Word::Declined),
+        text => refusal(text).then_some(Word::Refused),
     })?;
-    if lines.rest.is_empty() && !word {
-        return Ok(());
+    if let Word::Refused = word {
+        return lines.end();
     }
-    lines.take("draws", |text| decimal(text, most))?;
+    lines.take("draws", |text| decimal(text, file.draws))?;
     lines.take("state", words)?;
-    if !word {
+    if let Word::Declined = word {
         return lines.end();
     }
     lines.take("ratio", |text| ratio(text).then_some(()))?;

@@ -26,14 +26,14 @@ use tally::Tally;
 const USAGE: &str = "usage: compare files|moves|trees|parameters N, compare all [--files N] [--moves N] [--trees N] \
                      [--parameters N], or compare replay FILE; each with [--seed S]";
 
-/// A part: its name, whether the archives have it, and the function that compares so many cases from a seed.
-type Part = (&'static str, bool, fn(u64, u64) -> Compared<Tally>);
+/// A part: its name, and the function that compares so many cases from a seed.
+type Part = (&'static str, fn(u64, u64) -> Compared<Tally>);
 
 const PARTS: [Part; 4] = [
-    ("files", rove::exports::ANSWER, files::compare),
-    ("moves", rove::exports::MOVES, moves::compare),
-    ("trees", rove::exports::MOVES, trees::compare),
-    ("parameters", rove::exports::PARAMETERS, parameters::compare),
+    ("files", files::compare),
+    ("moves", moves::compare),
+    ("trees", trees::compare),
+    ("parameters", parameters::compare),
 ];
 
 fn main() -> ExitCode {
@@ -57,16 +57,14 @@ fn run(words: &[String]) -> Compared<()> {
     if what != "all" && !PARTS.iter().any(|part| part.0 == what) {
         return Err(USAGE.into());
     }
-    for (part, here, compare) in PARTS {
+    for (part, compare) in PARTS {
         let count = match what {
             "all" => option(words, &format!("--{part}"))?,
             _ if what == part => Some(number(words.get(1))?),
             _ => None,
         };
-        match count {
-            Some(_) if !here => println!("{part}: the archives do not have this part yet"),
-            Some(count) => println!("{}", compare(count, seed)?),
-            None => {}
+        if let Some(count) = count {
+            println!("{}", compare(count, seed)?);
         }
     }
     Ok(())

@@ -17,7 +17,7 @@ impl Way {
     pub const CHECKED: Self = Self { unvalidated: false, record: true };
 
     pub fn any(chance: &mut Chance) -> Self {
-        Self { unvalidated: exports::UNVALIDATED && chance.once_in(2), record: chance.once_in(2) }
+        Self { unvalidated: chance.once_in(2), record: chance.once_in(2) }
     }
 }
 

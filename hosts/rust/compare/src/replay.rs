@@ -1,6 +1,6 @@
-//! State files with the Rust's answers, for a program that replays them where there is no Rust. Each case is a line of
-//! sixteen bytes, "LLLLLLL MMMMMMM" and a byte 10, with the lengths of the file and of its answer in seven decimal
-//! digits; then the bytes of the file; then those of the answer. After the last case the data ends.
+//! State files with the Rust's answers, for the program `replay`, which answers them again where there is no Rust. The
+//! first line is `cases=` with their number. A case is a line `file=` with a length, so many bytes and a byte 10; then the
+//! answer likewise, after a line `answer=`. After the last case the data ends.
 
 use crate::files::{answer_of, case_of, kind_of, valid};
 use crate::oracle::{self, Compared};
@@ -9,7 +9,7 @@ use cases::{Chance, Kind};
 use std::collections::BTreeMap;
 use std::fs;
 
-/// How many cases there are of each move and answer, where they can be met at all.
+/// How many cases there are of each move, answer and kind of ratio, where they can be met at all.
 const MOVED: usize = 40;
 const DECLINED: usize = 16;
 const LINES: usize = 12;
@@ -22,7 +22,7 @@ const TIPS: [usize; 16] = [2, 2, 3, 3, 3, 4, 4, 5, 6, 8, 8, 12, 16, 16, 31, 50];
 struct Data {
     bytes: Vec<u8>,
     cases: u64,
-    counts: BTreeMap<(&'static str, &'static str), usize>,
+    counts: BTreeMap<(&'static str, &'static str, Vec<u8>), usize>,
 }
 
 /// Writes the cases of a seed.
@@ -46,14 +46,16 @@ pub fn write(path: &str, seed: u64) -> Compared<String> {
     let mut long = valid(&mut chance, 3).write();
     long.resize(LONGEST + 1, b'\n');
     data.add(&long)?;
-    fs::write(path, &data.bytes).map_err(|fault| format!("{path}: {fault}"))?;
-    Ok(format!("{path}: {} cases in {} bytes", data.cases, data.bytes.len()))
+    let bytes = [format!("cases={}\n", data.cases).as_bytes(), &data.bytes].concat();
+    fs::write(path, &bytes).map_err(|fault| format!("{path}: {fault}"))?;
+    Ok(format!("{path}: {} cases in {} bytes", data.cases, bytes.len()))
 }
 
 impl Data {
-    /// Adds a case, where more of its move and answer are wanted.
+    /// Adds a case, where more of its move, answer and kind of ratio are wanted.
     fn take(&mut self, file: Vec<u8>) -> Compared<()> {
-        let key = (kind_of(&file), answer_of(&oracle::answer(&file)?));
+        let answer = oracle::answer(&file)?;
+        let key = (kind_of(&file), answer_of(&answer), ratio_of(&answer));
         let wanted = match key.1 {
             "moved" => MOVED,
             "declined" => DECLINED,
@@ -81,10 +83,21 @@ impl Data {
 
     fn add(&mut self, file: &[u8]) -> Compared<()> {
         let answer = oracle::answer(file)?;
-        self.bytes.extend_from_slice(format!("{:07} {:07}\n", file.len(), answer.len()).as_bytes());
-        self.bytes.extend_from_slice(file);
-        self.bytes.extend_from_slice(&answer);
+        self.put("file", file);
+        self.put("answer", &answer);
         self.cases += 1;
         Ok(())
     }
+
+    fn put(&mut self, key: &str, text: &[u8]) {
+        self.bytes.extend_from_slice(format!("{key}={}\n", text.len()).as_bytes());
+        self.bytes.extend_from_slice(text);
+        self.bytes.push(b'\n');
+    }
+}
+
+/// The kind of the ratio in an answer; nothing where it has none.
+fn ratio_of(answer: &[u8]) -> Vec<u8> {
+    let line = answer.split(|&byte| byte == 10).nth(3).unwrap_or_default();
+    line.split(|&byte| byte == b',').next().unwrap_or_default().to_vec()
 }

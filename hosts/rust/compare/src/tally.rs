@@ -1,32 +1,29 @@
-//! Counts of what was compared, by kind and answer, and a line now and then on standard error.
+//! Counts of what was compared, by kind and answer.
 
+use cases::Progress;
 use std::collections::BTreeMap;
 use std::fmt;
-use std::time::{Duration, Instant};
+use std::time::Instant;
 
 pub struct Tally {
     what: &'static str,
     counts: BTreeMap<(&'static str, &'static str), u64>,
     total: u64,
-    wanted: u64,
+    progress: Progress,
     began: Instant,
-    told: Instant,
 }
 
 impl Tally {
     pub fn new(what: &'static str, wanted: u64) -> Self {
-        let now = Instant::now();
-        Self { what, counts: BTreeMap::new(), total: 0, wanted, began: now, told: now }
+        let progress = Progress::new(what, wanted);
+        Self { what, counts: BTreeMap::new(), total: 0, progress, began: Instant::now() }
     }
 
     /// One more of those wanted, by its kind and its answer.
     pub fn count(&mut self, kind: &'static str, answer: &'static str) {
         self.also(kind, answer, 1);
         self.total += 1;
-        if self.total.is_multiple_of(1024) && self.told.elapsed() > Duration::from_secs(10) {
-            self.told = Instant::now();
-            eprintln!("{}: {} of {}", self.what, self.total, self.wanted);
-        }
+        self.progress.done(self.total);
     }
 
     /// Others that were compared beside them.

@@ -45,10 +45,8 @@ const PARAMETERS: &[(&str, Call)] = calls! {
 
 /// The tree of two tips, on which each call would do something.
 pub fn records() -> Result<String, String> {
-    let parts =
-        [(exports::MOVES, MOVES), (exports::UNVALIDATED, UNVALIDATED), (exports::PARAMETERS, PARAMETERS)];
     let mut count = 0;
-    for &(name, call) in parts.into_iter().filter(|(here, _)| *here).flat_map(|(_, calls)| calls) {
+    for &(name, call) in [MOVES, UNVALIDATED, PARAMETERS].into_iter().flatten() {
         for length in 0..WORDS {
             let mut slices = (
                 vec![65_535, 65_535, 65_535, 65_535, 0, 1],

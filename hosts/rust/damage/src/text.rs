@@ -3,27 +3,29 @@
 use crate::guarded::Guarded;
 use cases::answers::in_form;
 use cases::damage::damaged;
-use cases::{Chance, Kind, Sample, StateFile, shapes};
+use cases::{Chance, Kind, Progress, Sample, StateFile, shapes};
 use rove::{LONGEST_ANSWER, exports};
 
 pub fn damage(count: u64, seed: u64) -> Result<String, String> {
-    if !exports::ANSWER {
-        return Ok("damage: no state files yet".into());
-    }
     let mut chance = Chance::new(seed);
-    let (mut answered, mut refused) = (0, 0);
-    for _ in 0..count {
+    let mut progress = Progress::new("files", count);
+    let (mut malformed, mut refused, mut answered) = (0, 0, 0);
+    for done in 1..=count {
         let file = bytes(&mut chance);
         let text =
             answer(&mut chance, &file).map_err(|fault| format!("{fault}\nfile:\n{}", file.escape_ascii()))?;
-        if text.starts_with(b"answer=refused") {
+        if text.starts_with(b"answer=refused,9,") {
+            malformed += 1;
+        } else if text.starts_with(b"answer=refused,") {
             refused += 1;
         } else {
             answered += 1;
         }
+        progress.done(done);
     }
     Ok(format!(
-        "damage: {count} files, of these {refused} refused and {answered} not; guards and lengths kept"
+        "damage: {count} files: {malformed} refused with the line that the host's own reading finds wrong, {refused} \
+         refused otherwise, {answered} answered; guards and lengths kept"
     ))
 }
 
@@ -55,7 +57,8 @@ fn file(chance: &mut Chance, tips: usize) -> StateFile {
     }
 }
 
-/// The answer to a file, after it was asked for with slices of several lengths.
+/// The answer to a file, which has to be one to what a reading in the host finds there, a 9 with the line where that finds
+/// one at fault and no 9 where it finds none; after it was asked for with slices of several lengths.
 fn answer(chance: &mut Chance, file: &[u8]) -> Result<Vec<u8>, String> {
     let file = Guarded::new(file, |word| word as u8, chance);
     let mut long = vec![0; LONGEST_ANSWER];

@@ -1,7 +1,7 @@
 //! The functions that do not look at the tree, on slices that are none: they end and stay within them.
 
 use crate::guarded::Guarded;
-use cases::{Chance, Sample, shapes};
+use cases::{Chance, Progress, Sample, shapes};
 use rove::{WORDS, exports, word};
 
 type Unvalidated = fn(&mut [u16], &mut [u16], &mut [f64], &mut [u64]) -> u64;
@@ -20,14 +20,13 @@ const CALLS: [Unvalidated; 8] = [
 ];
 
 pub fn damage(count: u64, seed: u64) -> Result<String, String> {
-    if !exports::UNVALIDATED {
-        return Ok("damage: no unvalidated calls yet".into());
-    }
     let mut chance = Chance::new(seed);
+    let mut progress = Progress::new("unvalidated calls", count);
     let mut answers = [0; 4];
-    for _ in 0..count {
+    for done in 1..=count {
         let code = call(&mut chance)?;
         answers[code as usize % 4] += 1;
+        progress.done(done);
     }
     Ok(format!(
         "damage: {count} unvalidated calls on slices that may be no tree, answers 0 to 2: {:?}; guards kept",

@@ -22,11 +22,9 @@ height=4000000000000000
 fn main() {
     let in_memory = moved_in_memory();
     print!("{in_memory}");
-    if rove::exports::ANSWER {
-        let text = String::from_utf8(rove::answer(FILE.as_bytes())).expect("text");
-        assert_eq!(text, in_memory, "the state file's answer is that of the call");
-        println!("The state file gives the same text.");
-    }
+    let text = String::from_utf8(rove::answer(FILE.as_bytes())).expect("text");
+    assert_eq!(text, in_memory, "the state file's answer is that of the call");
+    println!("The state file gives the same text.");
 }
 
 /// The move on a tree in memory, printed as the answer to the file is.

@@ -25,11 +25,10 @@ macro_rules! place {
     };
 }
 
-/// Functions of the part `cfg`: each takes its slices, which it reads or which are lent to it, and last the record's words.
+/// Functions that each take their slices, which they read or which are lent to them, and last the record's words.
 macro_rules! exports {
-    ($part:ident: $($name:ident($($slice:ident: $way:ident $t:ty),*);)*) => {
+    ($($name:ident($($slice:ident: $way:ident $t:ty),*);)*) => {
         $(
-            #[cfg($part)]
             #[inline]
             pub fn $name($($slice: slice!($way $t),)* words: &mut [u64]) -> u64 {
                 unsafe extern "C" {
@@ -38,18 +37,12 @@ macro_rules! exports {
                 // SAFETY: each pair is the address and the length of a slice that is borrowed for the call.
                 unsafe { $name($(place!($way $slice), $slice.len(),)* words.as_mut_ptr(), words.len()) }
             }
-
-            #[cfg(not($part))]
-            pub fn $name($($slice: slice!($way $t),)* words: &mut [u64]) -> u64 {
-                $(let _ = $slice;)*
-                let _ = words;
-                panic!("{} has not been made yet", stringify!($name));
-            }
         )*
     };
 }
 
-exports! { moves:
+// In librove.a.
+exports! {
     rove_next_u64();
     rove_below();
     rove_new(pairs: read u16, heights: read f64, parents: lend u16);
@@ -65,7 +58,8 @@ exports! { moves:
     rove_tree_scale(pairs: read u16, parents: read u16, heights: lend f64);
 }
 
-exports! { unvalidated:
+// In librove_unvalidated.a.
+exports! {
     rove_node_height_unvalidated(pairs: read u16, parents: read u16, heights: lend f64);
     rove_slide_start_unvalidated(pairs: read u16, parents: read u16, heights: read f64);
     rove_subtree_slide_unvalidated(pairs: lend u16, parents: lend u16, heights: lend f64);
@@ -76,7 +70,8 @@ exports! { unvalidated:
     rove_tree_scale_unvalidated(pairs: read u16, parents: read u16, heights: lend f64);
 }
 
-exports! { parameters:
+// In librove_parameters.a.
+exports! {
     rove_scale();
     rove_clock_rate_scale();
     rove_birth_difference_scale();
@@ -98,7 +93,6 @@ exports! { parameters:
 }
 
 /// The generator of a seed, into words 0 to 3.
-#[cfg(moves)]
 pub fn rove_seed(seed: u64, words: &mut [u64]) -> u64 {
     unsafe extern "C" {
         fn rove_seed(seed: u64, words: *mut u64, _: usize) -> u64;
@@ -107,14 +101,8 @@ pub fn rove_seed(seed: u64, words: &mut [u64]) -> u64 {
     unsafe { rove_seed(seed, words.as_mut_ptr(), words.len()) }
 }
 
-#[cfg(not(moves))]
-pub fn rove_seed(_: u64, _: &mut [u64]) -> u64 {
-    panic!("rove_seed has not been made yet");
-}
-
 /// The answer to a state file, into the first bytes of `answer`: how many there are, or 0 with nothing written where they
 /// do not fit.
-#[cfg(answer)]
 pub fn rove_answer(file: &[u8], answer: &mut [u8]) -> usize {
     unsafe extern "C" {
         fn rove_answer(file: *const u8, _: usize, answer: *mut u8, _: usize) -> usize;
@@ -122,14 +110,3 @@ pub fn rove_answer(file: &[u8], answer: &mut [u8]) -> usize {
     // SAFETY: addresses and lengths of slices that are borrowed for the call.
     unsafe { rove_answer(file.as_ptr(), file.len(), answer.as_mut_ptr(), answer.len()) }
 }
-
-#[cfg(not(answer))]
-pub fn rove_answer(_: &[u8], _: &mut [u8]) -> usize {
-    panic!("rove_answer has not been made yet");
-}
-
-/// Which parts the archives have.
-pub const MOVES: bool = cfg!(moves);
-pub const UNVALIDATED: bool = cfg!(unvalidated);
-pub const ANSWER: bool = cfg!(answer);
-pub const PARAMETERS: bool = cfg!(parameters);

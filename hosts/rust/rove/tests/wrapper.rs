@@ -101,9 +101,6 @@ fn refusals() {
 
 #[test]
 fn unvalidated() {
-    if !exports::UNVALIDATED {
-        return;
-    }
     let (mut tree, mut generator) = (tree_f(), Generator::from_state([1, 2, 3, 4]));
     let moved = moved(tree.root_scale_unvalidated(0.5, &mut generator, 9));
     assert_eq!((moved.root, moved.draws), (4, 1));
@@ -112,9 +109,6 @@ fn unvalidated() {
 
 #[test]
 fn scales() {
-    if !exports::PARAMETERS {
-        return;
-    }
     let state = [1, 2, 3, 4];
     // The first uniform of this state is 5·2^−41, which makes 0.5 a factor a little above it.
     let factor = 0.5 + 5.0 / (1u64 << 41) as f64 * 1.5;
@@ -138,9 +132,6 @@ fn scales() {
 
 #[test]
 fn clock() {
-    if !exports::PARAMETERS {
-        return;
-    }
     let mut clock = Clock { sigma: 0.5, rates: vec![1.0, 2.0] };
     assert_eq!(clock.validate(), Ok(()));
     assert_eq!(
@@ -173,9 +164,6 @@ fn clock() {
 
 #[test]
 fn process() {
-    if !exports::PARAMETERS {
-        return;
-    }
     let mut process =
         Process { birth: 1.0, death: 2.0, fossil_sampling: 3.0, present_sampling: 0.5, origin: 8.0 };
     let priors = Priors { origin_excess_mean: Some(1.0), ..Priors::default() };
@@ -202,9 +190,6 @@ fn process() {
 
 #[test]
 fn dating() {
-    if !exports::PARAMETERS {
-        return;
-    }
     let mut tree = tree_f();
     let process =
         Process { birth: 1.0, death: 0.5, fossil_sampling: 0.5, present_sampling: 0.5, origin: 10.0 };
@@ -221,9 +206,6 @@ fn dating() {
 
 #[test]
 fn densities_and_clades() {
-    if !exports::PARAMETERS {
-        return;
-    }
     let tree = tree_f();
     let density = tree.yule_log_density(0.5).expect("a density");
     assert_eq!(density, Density::Terms { power: 2, rate: 0.5, product: 2.5 });
@@ -237,9 +219,6 @@ fn densities_and_clades() {
 
 #[test]
 fn file() {
-    if !exports::ANSWER {
-        return;
-    }
     assert_eq!(answer(b""), b"answer=refused,9,1\n");
     assert_eq!(answer(&vec![b'\n'; 131_073]), b"answer=refused,9,0\n");
 }
