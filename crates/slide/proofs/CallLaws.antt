@@ -3,8 +3,10 @@ use mathlib.Core.Path.{_≡_, sym, _∙_}
 use mathlib.Core.Bool.{Bool, false, not, _&&_, and-eq-true-iff}
 use mathlib.Core.List.{List, []}
 use Prim.Native.Nat.{ℕ, _<_, _≤_}
+use native.Mathlib.Omega.{arith}
 use borrow.Author.Tests.{eq-eqb, ne-eqb, lt-ltb, le-ltb, ltb-true}
 use lib.Dec.{ltb, eqb}
+use lib.ListN.{length}
 use lib.Ieee.{Float}
 use lib.Ieee.Scale.{finite}
 use Rattle.answer.specs.declared.Refusal.{Refusal}
@@ -43,6 +45,10 @@ module _ (pairs : List ℕ) (root i : ℕ) (step : Float) where
 pub ruleset limitLaws = (limit-node, limit-root, limit-step)
 
 -- ---- the unvalidated call
+
+-- no tree that is accepted has so many places
+pub call-large : (pairs parents : List ℕ) (heights : List Float) (root : ℕ) → Accepted (treeOf pairs parents heights root) → 8190 < length pairs → {A : Type 0} → A
+call-large pairs parents heights root h l = let z = accepted-valid (treeOf pairs parents heights root) h .sized in absurd (omega (arith, z .few, z .pairs))
 
 -- limits is whether the parameters are within them, and v what was said of that
 module _ (pairs parents : List ℕ) (heights : List Float) (root i : ℕ) (step : Float) (h : Accepted (treeOf pairs parents heights root))

@@ -23,6 +23,9 @@ use random::Random;
 use random::Supply;
 use tree::Verdict;
 
+// The places of the largest tree's pairs. Branches are counted by a function that calls itself, on more places too deep for a stack.
+const MOST_PLACES: usize = 8190;
+
 // The node of a slide, the two uniforms of its step, and the draws made.
 pub struct SlideNode {
     pub node: usize,
@@ -312,6 +315,9 @@ pub fn subtree_slide_unvalidated(
 ) -> Answered
     ensures { λ r. ⌜ (Accepted (treeOf (now (pairs .entry)) (now (parents .entry)) (now (heights .entry)) root) → called (r .answer) (r .random) (now (pairs .exit)) (now (parents .exit)) (now (heights .exit)) ≡ moveCall (subtreeSlide node step) (treeOf (now (pairs .entry)) (now (parents .entry)) (now (heights .entry)) root) random allowance) ⌝ }
 {
+    if MOST_PLACES < pairs.len() {
+        return calls::refuse(Refusal::Size(pairs.len() / 2), random);
+    }
     let limits = is_slidable(pairs, root, node, step);
     match calls::check_limits(limits, allowance) {
         Verdict::Fine => {

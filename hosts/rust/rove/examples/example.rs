@@ -39,7 +39,7 @@ fn moved_in_memory() -> String {
     let Ratio::Power(factor, exponent) = moved.ratio else {
         panic!("a scale's ratio is a power");
     };
-    let [a, b, c, d] = generator.0;
+    let [a, b, c, d] = generator.state();
     let mut text =
         format!("answer=moved\ndraws={}\nstate={a:016x},{b:016x},{c:016x},{d:016x}\n", moved.draws);
     writeln!(text, "ratio=power,{:016x},{exponent}\nroot={}", factor.to_bits(), moved.root).expect("text");

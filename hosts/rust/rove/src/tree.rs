@@ -121,6 +121,7 @@ impl Tree {
     }
 
     /// The first call of a slide: its node, and the uniforms of its step.
+    #[inline]
     pub fn slide_start(&self, generator: &mut Generator, allowance: u64) -> Result<Started, Refusal> {
         let record = self.drawing(generator, allowance);
         let code = exports::rove_slide_start(&self.pairs, &self.parents, &self.heights, &mut record.0);
@@ -128,6 +129,7 @@ impl Tree {
     }
 
     /// The same without a look at the tree.
+    #[inline]
     pub fn slide_start_unvalidated(
         &self,
         generator: &mut Generator,
@@ -224,6 +226,7 @@ impl Tree {
     }
 }
 
+#[inline]
 fn started(code: u64, record: &Record) -> Result<Started, Refusal> {
     record.verdict(code)?;
     Ok(Started {
