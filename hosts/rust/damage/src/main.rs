@@ -30,6 +30,7 @@ fn run(words: &[String]) -> Result<(), String> {
         _ => 1,
     };
     println!("{}", short::records()?);
+    println!("{}", trees::deep()?);
     println!("{}", text::damage(count, seed)?);
     println!("{}", trees::damage(count, seed)?);
     Ok(())

@@ -19,6 +19,33 @@ const CALLS: [Unvalidated; 8] = [
     |pairs, parents, heights, words| exports::rove_tree_scale_unvalidated(pairs, parents, heights, words),
 ];
 
+/// A slide down a chain of as many nodes as have numbers, which no stack would hold if each node took a call.
+pub fn deep() -> Result<String, String> {
+    let nodes = 65_535usize;
+    let tips = nodes.div_ceil(2);
+    let mut pairs = vec![65_535; 2 * nodes];
+    let mut parents = vec![65_535; nodes];
+    for node in tips..nodes {
+        let first = if node == tips { 0 } else { node - 1 };
+        for (side, child) in [first, node - tips + 1].into_iter().enumerate() {
+            pairs[2 * node + side] = child as u16;
+            parents[child] = node as u16;
+        }
+    }
+    let mut heights: Vec<f64> = (0..nodes).map(|node| node.saturating_sub(tips - 1) as f64).collect();
+    let mut words = [0; WORDS];
+    words[word::ROOT] = nodes as u64 - 1;
+    words[word::ALLOWANCE] = 65_535;
+    words[word::NODE] = nodes as u64 - tips as u64;
+    words[word::TUNING] = (0.5 - (nodes - tips) as f64).to_bits();
+    let code = exports::rove_subtree_slide_unvalidated(&mut pairs, &mut parents, &mut heights, &mut words);
+    if code == 2 && words[word::KIND] == 1 {
+        Ok(format!("damage: an unvalidated slide on {nodes} nodes refused"))
+    } else {
+        Err(format!("an unvalidated slide on {nodes} nodes returned {code}"))
+    }
+}
+
 pub fn damage(count: u64, seed: u64) -> Result<String, String> {
     let mut chance = Chance::new(seed);
     let mut progress = Progress::new("unvalidated calls", count);
