@@ -64,7 +64,7 @@ impl Record {
             1 => Ratio::Counts(first, second),
             2 => Ratio::Lengths(f64::from_bits(first), f64::from_bits(second)),
             3 => Ratio::Power(f64::from_bits(first), second as i64),
-            kind => panic!("{kind} is no kind of ratio"),
+            kind => not_written(kind),
         }
     }
 
@@ -74,7 +74,7 @@ impl Record {
     /// Where the record's words are none that a call writes.
     pub fn refusal(&self) -> Refusal {
         let number = self.0[word::KIND];
-        Refusal::of(number, self.0[word::FIRST]).unwrap_or_else(|| panic!("{number} is no refusal's number"))
+        Refusal::of(number, self.0[word::FIRST]).unwrap_or_else(|| not_written(number))
     }
 
     /// What a call on a tree answered, by the code that it returned.
@@ -88,7 +88,7 @@ impl Record {
             0 => Answer::Moved(Moved { root: self.0[word::ROOT] as usize, draws, ratio: self.ratio() }),
             1 => Answer::Declined(draws),
             2 => Answer::Refused(self.refusal()),
-            _ => panic!("{code} is no answer's code"),
+            _ => not_written(code),
         }
     }
 
@@ -108,4 +108,10 @@ impl Record {
     pub fn verdict(&self, code: u64) -> Result<(), Refusal> {
         if code == 2 { Err(self.refusal()) } else { Ok(()) }
     }
+}
+
+/// A word that no call writes at its place.
+#[cold]
+fn not_written(word: u64) -> ! {
+    panic!("{word} is no code of an answer, no kind of ratio and no refusal's number")
 }
