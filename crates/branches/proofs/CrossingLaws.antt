@@ -12,7 +12,7 @@ use lib.Ieee.{Float, lt, nan}
 use Rattle.tree.specs.Tree.{Tree, nodesOf, inner, firstIn, secondIn, height}
 use Rattle.tree.specs.Given.{treeOf}
 use Rattle.branches.specs.declared.Walk.{Walk}
-use Rattle.branches.specs.Walk.{walkOf, outset, meet, walk, counted, picked}
+use Rattle.branches.specs.Walk.{walkOf, outset, meet, walk, walkUnder, counted, picked}
 use Rattle.branches.specs.WalkLaws.{look, walk-found, walk-spent, walk-met, walk-inner, walk-tip, walk-sum}
 
 -- ---- a branch
@@ -55,18 +55,21 @@ module _ (pairs : List ℕ) (hs : List Float) (x : Float) (index k : ℕ) (w : W
         pub crossing-tip : i ≡ false → look w ≡ walk d (nodesOf pairs) (treeOf pairs [] hs 0) x index k w
         crossing-tip z = rw (down-suc d D) (sym (walk-tip _ _ x index k (d - 1) w a b (height-is false y) (sym f ∙ z)))
 
-        pub crossing-both : i ≡ true → (c j : ℕ) → c ≡ firstIn pairs k → j ≡ secondIn pairs k → (u r : Walk)
-            → u ≡ walk (d - 1) (nodesOf pairs) (treeOf pairs [] hs 0) x index c (look w)
-            → r ≡ walk (d - 1) (nodesOf pairs) (treeOf pairs [] hs 0) x index j u → r ≡ walk d (nodesOf pairs) (treeOf pairs [] hs 0) x index k w
-        crossing-both z c j C J u r U R =
-            rw (down-suc d D) (R ∙ (rw (U, C, J)) ∙ sym (walk-inner _ _ x index k (d - 1) w a b (height-is false y) (sym f ∙ z)))
+        pub crossing-inner : i ≡ true → (r : Walk) → r ≡ walkUnder (d - 1) (nodesOf pairs) (treeOf pairs [] hs 0) x index k (look w)
+            → r ≡ walk d (nodesOf pairs) (treeOf pairs [] hs 0) x index k w
+        crossing-inner z r R = rw (down-suc d D) (R ∙ sym (walk-inner _ _ x index k (d - 1) w a b (height-is false y) (sym f ∙ z)))
+
+  pub crossing-both : (c j : ℕ) → c ≡ firstIn pairs k → j ≡ secondIn pairs k → (u r : Walk)
+      → u ≡ walk d (nodesOf pairs) (treeOf pairs [] hs 0) x index c w
+      → r ≡ walk d (nodesOf pairs) (treeOf pairs [] hs 0) x index j u → r ≡ walkUnder d (nodesOf pairs) (treeOf pairs [] hs 0) x index k w
+  crossing-both c j C J u r U R = R ∙ (rw (U, C, J))
 
 -- what is met and left after the first child
 pub crossing-fits : (d n : ℕ) (t : Tree) (x : Float) (index k : ℕ) (w u : Walk) → w .met + w .left < 2 ^ 64
-    → u ≡ walk d n t x index k (look w) → u .met + u .left < 2 ^ 64
-crossing-fits d n t x index k w u h e = let z = walk-sum d n t x index k (look w) in rw e (omega arith)
+    → u ≡ walk d n t x index k w → u .met + u .left < 2 ^ 64
+crossing-fits d n t x index k w u h e = let z = walk-sum d n t x index k w in rw e (omega arith)
 
-pub ruleset crossingLaws = (crossing-flat, crossing-found, crossing-spent, crossing-met, crossing-tip, crossing-both, crossing-fits)
+pub ruleset crossingLaws = (crossing-flat, crossing-found, crossing-spent, crossing-met, crossing-tip, crossing-inner, crossing-both, crossing-fits)
 
 -- ---- all of them, or one
 

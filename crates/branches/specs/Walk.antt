@@ -32,6 +32,10 @@ walk (suc depth) n t x index k w =
     let v = walkOf (w .found) (w .met) (w .left - 1) in
     cond (ends w) w (cond (lt (height t k) x) (meet index k v) (cond (inner n k) (walk depth n t x index (second t k) (walk depth n t x index (first t k) v)) v))
 
+-- those under both children of k
+abbrev pub walkUnder : ℕ → ℕ → Tree → Float → ℕ → ℕ → Walk → Walk
+walkUnder depth n t x index k w = walk depth n t x index (second t k) (walk depth n t x index (first t k) w)
+
 -- all branches counted: none has the number noNode
 unfoldable pub counted : Tree → Float → ℕ → ℕ
 counted t x k = let n = nodesOf (t .pairs) in walk n n t x noNode k (outset n) .met

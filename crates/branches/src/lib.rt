@@ -5,7 +5,7 @@ ghost use Prim.Native.Nat.{_+_, _^_, _<_};
 ghost use Rattle.tree.specs.Tree.{nodesOf};
 ghost use Rattle.tree.specs.Given.{kinIn, datesIn};
 ghost use Rattle.rules.specs.Rules.{climb};
-ghost use Rattle.branches.specs.Walk.{meet, walk, counted, picked};
+ghost use Rattle.branches.specs.Walk.{meet, walk, walkUnder, counted, picked};
 
 // No node, and the number of no branch.
 const NONE: usize = 65535;
@@ -58,7 +58,6 @@ fn crossing(
     if w.left == 0 {
         return w;
     }
-    let n = pairs.len() / 2;
     let v = Walk {
         found: w.found,
         met: w.met,
@@ -67,13 +66,29 @@ fn crossing(
     if reads::height(heights, k) < x {
         return meet(index, k, v);
     }
-    if reads::is_inner(n, k) {
-        let a = reads::first(pairs, k);
-        let b = reads::second(pairs, k);
-        let below = crossing(pairs, heights, x, index, a, v, depth - 1);
-        return crossing(pairs, heights, x, index, b, below, depth - 1);
+    if reads::is_inner(pairs.len() / 2, k) {
+        return crossing_under(pairs, heights, x, index, k, v, depth - 1);
     }
     v
+}
+
+// Those under both children of k, the first child's before the second's.
+fn crossing_under(
+    pairs: &[u16],
+    heights: &[f64],
+    x: f64,
+    index: usize,
+    k: usize,
+    w: Walk,
+    depth: usize,
+) -> Walk
+    requires { ⌜ w .met + w .left < 2 ^ 64 ⌝ }
+    ensures { λ r. ⌜ r ≡ walkUnder depth (nodesOf (now (pairs .entry))) (kinIn (now (pairs .entry)) (now (heights .entry))) x index k w ⌝ }
+{
+    let a = reads::first(pairs, k);
+    let b = reads::second(pairs, k);
+    let below = crossing(pairs, heights, x, index, a, w, depth);
+    crossing(pairs, heights, x, index, b, below, depth)
 }
 
 // How many branches under k, or k's own, span the height x.
