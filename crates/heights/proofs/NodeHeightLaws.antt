@@ -1,9 +1,9 @@
 -- The ways through NodeHeight: an internal node other than the root (`nonRootInternalLaws`), the taller child's height (`floorLaws`), a height for
 -- a node (`placeLaws`), and the turn (`nodeHeightLaws`). Assumes nothing.
-use mathlib.Core.Path.{_≡_, ap, _∙_}
+use mathlib.Core.Path.{_≡_}
 use mathlib.Core.Bool.{Bool, true, false, not}
 use mathlib.Core.List.{List}
-use Prim.Native.Nat.{ℕ, _+_, _<_}
+use Prim.Native.Nat.{ℕ, _<_}
 use lib.Dec.{eqb}
 use lib.ListN.{getD, set}
 use lib.Ieee.{Float, nan}
@@ -18,7 +18,6 @@ use Rattle.random.specs.SupplyLaws.{number-got, number-spent}
 use Rattle.real.specs.Real.{maxOf}
 use Rattle.tree.specs.Tree.{Tree, nodesOf, firstIn, secondIn, parent, height}
 use Rattle.tree.specs.Given.{treeOf, kinIn}
-use Rattle.tree.specs.PlaceLaws.{wide16, next-place}
 use Rattle.edits.specs.Slots.{setHeight}
 use Rattle.rules.specs.Rules as Rules
 use Rattle.rules.specs.Rules.{oneInternal, floor}
@@ -61,13 +60,7 @@ pub floor-is : (pairs : List ℕ) (heights : List Float) (k i j : ℕ) → i ≡
 unfolding height
 floor-is pairs heights k i j ei ej a b r ea eb er = rw (er, ea, eb, ei, ej)
 
--- both children have heights
-pub floor-inside : (pairs : List ℕ) (heights : List Float) (k : ℕ) (r : Float) → r ≡ maxOf (getD heights (getD pairs (k + k) 0) nan) (getD heights (getD pairs (k + k + 1) 0) nan)
-    → r ≡ floor (kinIn pairs heights) k
-unfolding height
-floor-inside pairs heights k r e = e ∙ ap (λ (j : ℕ). maxOf (getD heights (firstIn pairs k) nan) (getD heights j nan)) (next-place pairs k)
-
-pub ruleset floorLaws = (wide16, floor-is, floor-inside)
+pub ruleset floorLaws = (floor-is)
 
 -- ---- a height for node k
 

@@ -54,29 +54,13 @@ fn non_root_internal(s: Supply, n: usize, root: usize) -> DrawnNumber
     }
 }
 
-// The height of the taller child of a node, in any slices.
-fn floor_in_any(pairs: &[u16], heights: &[f64], k: usize) -> f64
+// The height of the taller child of a node.
+fn floor(pairs: &[u16], heights: &[f64], k: usize) -> f64
     ensures { λ r. ⌜ r ≡ floor (kinIn (now (pairs .entry)) (now (heights .entry))) k ⌝ }
 {
     let a = reads::height(heights, reads::first(pairs, k));
     let b = reads::height(heights, reads::second(pairs, k));
     real::max(a, b)
-}
-
-// The same, with fewer tests where both children have heights, as in every tree.
-fn floor(pairs: &[u16], heights: &[f64], k: usize) -> f64
-    ensures { λ r. ⌜ r ≡ floor (kinIn (now (pairs .entry)) (now (heights .entry))) k ⌝ }
-{
-    if k < pairs.len() / 2 {
-        let a = pairs[k + k] as usize;
-        let b = pairs[k + k + 1] as usize;
-        if a < heights.len() {
-            if b < heights.len() {
-                return real::max(heights[a], heights[b]);
-            }
-        }
-    }
-    floor_in_any(pairs, heights, k)
 }
 
 // Node k takes a height from its taller child's to its parent's, drawn from the supply `between`; s is the turn's.

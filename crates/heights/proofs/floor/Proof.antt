@@ -4,44 +4,17 @@ use Rattle.heights.proofs.NodeHeightLaws.{floorLaws}
 use Rattle.heights.proofs.floor.Statement.{statement}
 use Rattle.heights.proofs.floor.Tie as tie
 
-add-a : tie.Need-add-a
-add-a c = search (floorLaws, needs)
+first-requires : tie.Need-first-requires
+first-requires c κs = search (floorLaws, needs)
 
-mul-a : tie.Need-mul-a
-mul-a c = search (floorLaws, needs)
+height-requires : tie.Need-height-requires
+height-requires c κs = search (floorLaws, needs)
 
-shared-slice-read-a : tie.Need-shared-slice-read-a
-shared-slice-read-a c = search (floorLaws, needs)
+second-requires : tie.Need-second-requires
+second-requires c κs = search (floorLaws, needs)
 
-cast-a : tie.Need-cast-a
-cast-a c = search (floorLaws, needs)
-
-add-b : tie.Need-add-b
-add-b c = search (floorLaws, needs)
-
-add-b-2 : tie.Need-add-b-2
-add-b-2 c = search (floorLaws, needs)
-
-mul-b : tie.Need-mul-b
-mul-b c = search (floorLaws, needs)
-
-shared-slice-read-b : tie.Need-shared-slice-read-b
-shared-slice-read-b c = search (floorLaws, needs)
-
-cast-b : tie.Need-cast-b
-cast-b c = search (floorLaws, needs)
-
-mul-max : tie.Need-mul-max
-mul-max c = search (floorLaws, needs)
-
-shared-slice-read-max : tie.Need-shared-slice-read-max
-shared-slice-read-max c = search (floorLaws, needs)
-
-mul-max-2 : tie.Need-mul-max-2
-mul-max-2 c = search (floorLaws, needs)
-
-shared-slice-read-max-2 : tie.Need-shared-slice-read-max-2
-shared-slice-read-max-2 c = search (floorLaws, needs)
+height-requires-2 : tie.Need-height-requires-2
+height-requires-2 c κs = search (floorLaws, needs)
 
 max-requires : tie.Need-max-requires
 max-requires c κs = search (floorLaws, needs)
@@ -49,30 +22,13 @@ max-requires c κs = search (floorLaws, needs)
 returns : tie.Need-returns
 returns c = search (floorLaws, needs)
 
-floor-in-any-requires : tie.Need-floor-in-any-requires
-floor-in-any-requires c κs = search (floorLaws, needs)
-
-returns-2 : tie.Need-returns-2
-returns-2 c = search (floorLaws, needs)
-
 pub floor-spec : {M : Type 1} → statement M
 floor-spec =
     tie.close
     (tie.spec
-    add-a
-    mul-a
-    shared-slice-read-a
-    cast-a
-    add-b
-    add-b-2
-    mul-b
-    shared-slice-read-b
-    cast-b
-    mul-max
-    shared-slice-read-max
-    mul-max-2
-    shared-slice-read-max-2
+    first-requires
+    height-requires
+    second-requires
+    height-requires-2
     max-requires
-    returns
-    floor-in-any-requires
-    returns-2)
+    returns)
