@@ -2,17 +2,16 @@
 -- height in an interval (`intervalLaws`) and the factor of a scale (`scalerLaws`). Assumes nothing.
 use mathlib.Core.Path.{_≡_, refl, sym, ap, _∙_}
 use mathlib.Core.Bool.{Bool, true, false, not}
-use Prim.Native.Nat.{ℕ, _+_, _-_, _/_, _<_}
+use Prim.Native.Nat.{ℕ, _+_, _-_, _/_, _^_, _<_}
 use native.Mathlib.Omega.{arith}
 use lib.Dec.{T, eqb}
 use lib.Ieee.{Float, binary64, add, sub, mul, div, le, nanBits}
 use mir.Val.{Fits}
 use mir.Syntax.{w64}
-use borrow.Author.Tests.{eq-eqb, ne-eqb}
 use Rattle.random.specs.declared.Supply.{Supply}
 use Rattle.random.specs.declared.DrawnNumber.{DrawnNumber}
-use Rattle.random.specs.Draw.{below, onward, pick, drawnNumber}
-use Rattle.random.specs.DrawLaws.{below-yields}
+use Rattle.random.specs.Draw.{below, belowOther, onward, pick, drawnNumber}
+use Rattle.random.specs.DrawLaws.{other-plain, below-yields}
 use Rattle.random.specs.SupplyLaws.{number-got, number-spent}
 use Rattle.real.specs.Real.{one}
 use Rattle.tree.specs.Tree.{tipsOf}
@@ -20,29 +19,18 @@ use Rattle.rules.specs.Rules.{internals, oneInternal, within}
 use Rattle.calls.specs.declared.Height.the-variants as Heights
 use Rattle.calls.specs.Draws.{nonRoot, internal, scaler, interpolated}
 use Rattle.calls.specs.Given.{heightOf}
-use Rattle.calls.specs.RedrawLaws.{redraw-fewer, redraw-spent, redraw-taken, redraw-passed}
 
 -- ---- a node other than the root
 
-module _ (n root : ℕ) (s : Supply) (r : DrawnNumber) (e : r ≡ drawnNumber s (pick (below n) s)) where
-  module _ (s₀ : Supply) (inv : pick (nonRoot n root) s₀ ≡ pick (nonRoot n root) s) where
-    pub non-root-spent : r .ok ≡ false → record { ok = false; value = 0; supply = s₀ } ≡ drawnNumber s₀ (pick (nonRoot n root) s₀)
-    unfolding nonRoot
-    non-root-spent h = redraw-spent (λ k. not (eqb k root)) (below n) s r e s₀ inv h
+module _ (n root : ℕ) where
+  pub non-root-fits : Fits w64 n → 0 + n < 2 ^ 64
+  non-root-fits h = let z = h .fits in omega arith
 
-    module _ (h : r .ok ≡ true) where
-      pub non-root-taken : (r .value ≡ root → ⊥) → record { ok = true; value = r .value; supply = r .supply } ≡ drawnNumber s₀ (pick (nonRoot n root) s₀)
-      unfolding nonRoot
-      non-root-taken d = redraw-taken (λ k. not (eqb k root)) (below n) s r e s₀ inv h (rw (ne-eqb (r .value) root d))
+  pub non-root-is : (s : Supply) (r : DrawnNumber) → r ≡ drawnNumber s (pick (belowOther n 0 root) s) → r ≡ drawnNumber s (pick (nonRoot n root) s)
+  unfolding nonRoot
+  non-root-is s r e = e ∙ ap (drawnNumber s) (other-plain n root s)
 
-      pub non-root-passed : r .value ≡ root → pick (nonRoot n root) s₀ ≡ pick (nonRoot n root) (r .supply)
-      unfolding nonRoot
-      non-root-passed d = redraw-passed (λ k. not (eqb k root)) (below n) s r e s₀ inv h (rw (eq-eqb (r .value) root d))
-
-  pub non-root-fewer : r .ok ≡ true → r .supply .left < s .left
-  non-root-fewer h = redraw-fewer (λ k. not (eqb k root)) (below n) s r e h
-
-pub ruleset nonRootLaws = (non-root-spent, non-root-taken, non-root-passed, non-root-fewer)
+pub ruleset nonRootLaws = (non-root-fits, non-root-is)
 
 -- ---- an internal node
 

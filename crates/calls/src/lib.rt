@@ -118,28 +118,7 @@ pub fn refuse(why: Refusal, random: Random) -> Answered
 pub fn non_root(s: Supply, n: usize, root: usize) -> DrawnNumber
     ensures { λ r. ⌜ r ≡ drawnNumber s (pick (nonRoot n root) s) ⌝ }
 {
-    let mut supply = s;
-    loop {
-        let d = supply.below(n);
-        let next = d.supply;
-        if d.ok {
-            if d.value == root {
-                supply = next;
-            } else {
-                return DrawnNumber {
-                    ok: true,
-                    value: d.value,
-                    supply: next,
-                };
-            }
-        } else {
-            return DrawnNumber {
-                ok: false,
-                value: 0,
-                supply: s,
-            };
-        }
-    }
+    s.below_other(n, 0, root)
 }
 
 // Whether n nodes have one internal node: half of them are internal, rounded down.

@@ -1,4 +1,5 @@
 -- The laws that the proofs of heights share: one for each way through a function.
+mod RangeLaws
 mod NodeHeightLaws
 mod RootScaleLaws
 mod TreeScaleLaws

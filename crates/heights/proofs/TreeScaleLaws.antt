@@ -1,22 +1,23 @@
 -- The ways through TreeScale: the lowest node that overflows (`lowestLaws`), the heights that are scaled (`scaleLaws`), the ratio
 -- (`ratioLaws`), and the turn (`treeScaleLaws`). Assumes nothing.
 use mathlib.Core.Path.{_≡_, refl, sym, ap, _∙_}
-use mathlib.Core.Bool.{Bool, true, false, not, _&&_, cond}
+use mathlib.Core.Bool.{Bool, true, false, true≢false, not, _&&_, cond}
 use mathlib.Core.List.{List}
 use Prim.Native.Nat.{ℕ, zero, suc, _+_, _-_, _/_, _≤_, _<_}
 use native.Mathlib.Omega.{arith}
 use native.Mathlib.Numerals.{add-one}
-use lib.Dec.{ltb}
+use lib.Dec.{T, ltb, leb, leb→le, ltb→lt}
 use lib.ListN.{length, getD, set}
 use lib.Seq.{getD-set-other}
 use lib.IntN.{pos, negsuc, _-ℤ_}
 use lib.Ieee.{Float, nan, binary64, mul}
 use lib.Ieee.Bits.{is-true}
+use lib.Ieee.Fits.{and-l, and-r}
 use lib.Ieee.Scale.{finite}
 use mir.Val.{SFits, toZ, ofZ}
 use mir.Syntax.{w32}
 use mir.Facts.{toZ-pos, toZ-ofZ}
-use borrow.Author.Tests.{lt-ltb, le-ltb}
+use borrow.Author.Tests.{lt-ltb, le-ltb, le-leb}
 use Rattle.answer.specs.declared.Ratio.{Ratio}
 use Rattle.answer.specs.declared.Ratio.the-variants.{Power}
 use Rattle.random.specs.declared.Supply.{Supply}
@@ -26,15 +27,16 @@ use Rattle.random.specs.DrawLaws.{bind-got, bind-spent}
 use Rattle.tree.specs.Tree.{Tree, nodesOf, inner, height}
 use Rattle.tree.specs.Valid.{Valid}
 use Rattle.tree.specs.Given.{treeOf}
+use Rattle.tree.specs.PlaceLaws.{wide16}
 use Rattle.edits.specs.Slots.{setHeight}
 use Rattle.rules.specs.Rules.{internals, scaledTo, treeScaled, treeScaleRatio}
 use Rattle.calls.specs.declared.Turned.the-variants as Turns
 use Rattle.calls.specs.Call.{makes, notFinite, moved}
 use Rattle.calls.specs.Draws.{scaler, least}
 use Rattle.moves.specs.Programs.{overflows, treeScale}
-use Rattle.calls.specs.Given.{afterOn, turnOf}
+use Rattle.calls.specs.Given.{After, afterOn, turnOf}
 use Rattle.calls.specs.LeastLaws.{least-none, least-step, least-stop, least-some}
-use Rattle.heights.specs.Given.{heightsOf}
+use Rattle.heights.specs.Given.{heightsOf, scalable}
 use Rattle.random.specs.SupplyLaws.{real-got, real-spent}
 use Rattle.heights.specs.ProductLaws.{height-finite}
 use Rattle.accepted.specs.RootLaws.{root-inner}
@@ -140,22 +142,29 @@ module _ (k : ℕ) where
 
 module _ (n : ℕ) (h : n ≤ 4095) where
   -- the bits of a small number are read as that number
-  read : toZ w32 (internals n) ≡ pos (internals n)
-  read = toZ-pos w32 (omega arith)
+  read : toZ w32 (n / 2) ≡ pos (internals n)
+  read = let e : internals n ≡ n / 2 = omega arith in toZ-pos w32 (omega arith) ∙ ap pos (sym e)
 
-  pub ratio-fits : SFits w32 (toZ w32 (internals n) -ℤ pos 2)
+  pub ratio-fits : SFits w32 (toZ w32 (n / 2) -ℤ pos 2)
   ratio-fits = rw read (less-two (internals n) (omega arith))
 
-  pub ratio-is : (f : Float) → Power f (toZ w32 (ofZ w32 (toZ w32 (internals n) -ℤ pos 2))) ≡ treeScaleRatio n f
+  pub ratio-is : (f : Float) → Power f (toZ w32 (ofZ w32 (toZ w32 (n / 2) -ℤ pos 2))) ≡ treeScaleRatio n f
   ratio-is f = rw read (ap (Power f) (toZ-ofZ (less-two (internals n) (omega arith))))
 
--- there is no such tree
-pub ratio-none : (n : ℕ) (f : Float) (r : Ratio) → 4095 < n → n ≤ 4095 → r ≡ treeScaleRatio n f
-ratio-none n f r k h = absurd (omega arith)
-
-pub ruleset ratioLaws = (ratio-fits, ratio-is, ratio-none)
+pub ruleset ratioLaws = (ratio-fits, ratio-is)
 
 -- ---- the turn
+
+-- what the test of the range shows
+module _ (heights : List Float) (root : ℕ) (c : Bool) (e : c ≡ scalable heights root) (k : c ≡ true) where
+  passed : T (scalable heights root)
+  passed = rw (← e, k) tt
+
+  pub few-nodes : length heights ≤ 4095
+  few-nodes = leb→le (length heights) 4095 (and-l (leb (length heights) 4095) (ltb root (length heights)) passed)
+
+  pub root-place : root < length heights
+  root-place = ltb→lt root (length heights) (and-r (leb (length heights) 4095) (ltb root (length heights)) passed)
 
 module _ (pairs parents : List ℕ) (heights : List Float) (root : ℕ) (tuning : Float) (s : Supply) (u : DrawnReal) (e : u ≡ drawnReal s (run uniform s)) where
   abbrev t : Tree
@@ -168,9 +177,15 @@ module _ (pairs parents : List ℕ) (heights : List Float) (root : ℕ) (tuning 
   unfolding treeScale turnOf
   tree-spent g = rw (bind-spent uniform _ s (real-spent s u (run uniform s) e g))
 
-  -- f is the factor, h the root's height, and b whether their product is finite
-  module _ (v : Valid (nodesOf pairs) (treeOf pairs parents heights root)) (g : u .ok ≡ true) (f : Float) (ef : f ≡ scaler tuning (u .value)) (h : Float)
-      (eh : h ≡ getD heights root nan) (b : Bool) (eb : b ≡ finite (mul binary64 h f)) where
+  -- c is whether the root is in range and the tree no larger than any, as it is where it is valid
+  pub tree-unscalable : Valid (nodesOf pairs) (treeOf pairs parents heights root) → (c : Bool) → c ≡ scalable heights root → c ≡ false → (a : After)
+      → a ≡ turnOf t s (run (treeScale tuning t) s)
+  tree-unscalable v c ec k a =
+      absurd (true≢false (sym (ec ∙ rw (v .sized .heights, le-leb n 4095 (v .sized .few), lt-ltb root n (v .root-node))) ∙ k))
+
+  -- f is the factor, and b whether its product with the root's height is finite
+  module _ (v : Valid (nodesOf pairs) (treeOf pairs parents heights root)) (g : u .ok ≡ true) (f : Float) (ef : f ≡ scaler tuning (u .value)) (b : Bool)
+      (eb : b ≡ finite (mul binary64 (getD heights root nan) f)) where
     abbrev k : ℕ
     k = least (overflows n t f) n
 
@@ -185,7 +200,7 @@ module _ (pairs parents : List ℕ) (heights : List Float) (root : ℕ) (tuning 
     -- none does where the root's product is finite
     all-finite : b ≡ true → k ≡ n
     unfolding height
-    all-finite y = least-none (overflows n t f) n (λ c C. go (inner n c) (product c) (is-true (product c) (height-finite v f (rw (← eh, ← eb, y) tt) c C)))
+    all-finite y = least-none (overflows n t f) n (λ c C. go (inner n c) (product c) (is-true (product c) (height-finite v f (rw (← eb, y) tt) c C)))
       where
         product : ℕ → Bool
         product c = finite (mul binary64 (height t c) f)
@@ -194,16 +209,16 @@ module _ (pairs parents : List ℕ) (heights : List Float) (root : ℕ) (tuning 
         go true x z = rw z
         go false x z = refl
 
-    pub tree-moved : b ≡ true → (z : Ratio) → (nodesOf pairs ≤ 4095 → z ≡ treeScaleRatio n f) → (hs : List Float) → hs ≡ scaledTo (length heights) (heightsOf heights) f (length heights) .heights
+    pub tree-moved : b ≡ true → (z : Ratio) → z ≡ treeScaleRatio (length heights) f → (hs : List Float) → hs ≡ scaledTo (length heights) (heightsOf heights) f (length heights) .heights
         → afterOn (Turns.Moved root z) (u .supply) (treeOf pairs parents hs root) ≡ turnOf t s (run (treeScale tuning t) s)
     unfolding turnOf
-    tree-moved y z ez hs w = rw (ran, all-finite y, le-ltb n n (omega arith), scaled-whole n t f n, ez (v .sized .few), w, long)
+    tree-moved y z ez hs w = rw (ran, all-finite y, le-ltb n n (omega arith), scaled-whole n t f n, ez, w, long)
 
     pub tree-not-finite : b ≡ false → (j : ℕ) → j ≡ least (overflows (length heights) (heightsOf heights) f) (length heights)
         → afterOn (Turns.NotFinite j) (u .supply) t ≡ turnOf t s (run (treeScale tuning t) s)
     unfolding turnOf height
     tree-not-finite y j ej =
-        let m : least (overflows n t f) n < n = least-some (overflows n t f) n root (v .root-node) (rw (lt-ltb n (root + root) (root-inner v), ← eh, ← eb, y)) in
+        let m : least (overflows n t f) n < n = least-some (overflows n t f) n root (v .root-node) (rw (lt-ltb n (root + root) (root-inner v), ← eb, y)) in
         rw (ran, lt-ltb k n m, ej, long)
 
-pub ruleset treeScaleLaws = (tree-spent, tree-moved, tree-not-finite)
+pub ruleset treeScaleLaws = (tree-spent, tree-unscalable, tree-moved, tree-not-finite, few-nodes, root-place, wide16)

@@ -3,6 +3,7 @@
 ghost use mathlib.Core.Path.{_≡_};
 ghost use Prim.Native.Nat.{_≤_};
 ghost use lib.ListN.{length};
+ghost use lib.Dec.{T};
 ghost use Rattle.random.specs.Draw.{pick, run, drawnNumber};
 ghost use Rattle.tree.specs.Tree.{nodesOf};
 ghost use Rattle.tree.specs.New.{Accepted};
@@ -15,7 +16,7 @@ ghost use Rattle.calls.specs.Draws.{least};
 ghost use Rattle.moves.specs.Programs.{overflows, nonRootInternal, placing};
 ghost use Rattle.moves.specs.Moves.{nodeHeight, rootScale, treeScale, moveCall};
 ghost use Rattle.calls.specs.Given.{after, turnOf};
-ghost use Rattle.heights.specs.Given.{heightsOf};
+ghost use Rattle.heights.specs.Given.{heightsOf, shaped, hasChildren, hasKin, scalable, stays};
 use answer::Ratio;
 use calls::Answered;
 use calls::Height;
@@ -26,41 +27,83 @@ use random::Random;
 use random::Supply;
 use tree::Verdict;
 
+// The nodes of the largest tree.
+const LARGEST: usize = 4095;
+
+// ---- what is in range: all that a move follows in an accepted tree. On other slices these tests keep every index inside.
+
+// Whether there are a pair and a parent for each of n nodes.
+fn is_shaped(pairs: &[u16], parents: &[u16], n: usize) -> bool
+    ensures { λ r. ⌜ r ≡ shaped (now (pairs .entry)) (now (parents .entry)) n ⌝ }
+{
+    pairs.len() / 2 == n && parents.len() == n
+}
+
+// Whether k and both its children have heights.
+fn has_children(pairs: &[u16], heights: &[f64], k: usize) -> bool
+    ensures { λ r. ⌜ r ≡ hasChildren (now (pairs .entry)) (now (heights .entry)) k ⌝ }
+{
+    let n = heights.len();
+    if k < n {
+        if k < pairs.len() / 2 {
+            let a = pairs[k + k] as usize;
+            let b = pairs[k + k + 1] as usize;
+            return a < n && b < n;
+        }
+        return false;
+    }
+    false
+}
+
+// Whether k, both its children and its parent have heights.
+fn has_kin(pairs: &[u16], parents: &[u16], heights: &[f64], k: usize) -> bool
+    ensures { λ r. ⌜ r ≡ hasKin (now (pairs .entry)) (now (parents .entry)) (now (heights .entry)) k ⌝ }
+{
+    if has_children(pairs, heights, k) {
+        if k < parents.len() {
+            let p = parents[k] as usize;
+            return p < heights.len();
+        }
+        return false;
+    }
+    false
+}
+
+// Whether the root has a height, of no more than the largest tree has.
+fn is_scalable(heights: &[f64], root: usize) -> bool
+    ensures { λ r. ⌜ r ≡ scalable (now (heights .entry)) root ⌝ }
+{
+    heights.len() <= LARGEST && root < heights.len()
+}
+
+// A turn without a move.
+fn stay(s: Supply) -> Turn
+    ensures { λ r. ⌜ r ≡ stays s ⌝ }
+{
+    Turn {
+        turned: Turned::Declined,
+        supply: s,
+    }
+}
+
+// ---- NodeHeight
+
 // An internal node of n other than the root.
 fn non_root_internal(s: Supply, n: usize, root: usize) -> DrawnNumber
     ensures { λ r. ⌜ r ≡ drawnNumber s (pick (nonRootInternal n root) s) ⌝ }
 {
-    let mut supply = s;
-    loop {
-        let d = calls::internal(supply, n);
-        let next = d.supply;
-        if d.ok {
-            if d.value == root {
-                supply = next;
-            } else {
-                return DrawnNumber {
-                    ok: true,
-                    value: d.value,
-                    supply: next,
-                };
-            }
-        } else {
-            return DrawnNumber {
-                ok: false,
-                value: 0,
-                supply: s,
-            };
-        }
-    }
+    let half = n / 2;
+    s.below_other(half, n - half, root)
 }
 
 // The height of the taller child of a node.
 fn floor(pairs: &[u16], heights: &[f64], k: usize) -> f64
+    requires { ⌜ T (hasChildren (now pairs) (now heights) k) ⌝ }
     ensures { λ r. ⌜ r ≡ floor (kinIn (now (pairs .entry)) (now (heights .entry))) k ⌝ }
 {
-    let a = reads::height(heights, reads::first(pairs, k));
-    let b = reads::height(heights, reads::second(pairs, k));
-    real::max(a, b)
+    let a = pairs[k + k] as usize;
+    let b = pairs[k + k + 1] as usize;
+    real::max(heights[a], heights[b])
 }
 
 // Node k takes a height from its taller child's to its parent's, drawn from the supply `between`; s is the turn's.
@@ -73,16 +116,17 @@ fn place(
     between: Supply,
     s: Supply,
 ) -> Turn
+    requires { ⌜ T (hasKin (now pairs) (now parents) (now heights) k) ⌝ }
     ensures { λ r. ⌜ after r (now (pairs .entry)) (now (parents .entry)) (now (heights .exit)) ≡ turnOf (treeOf (now (pairs .entry)) (now (parents .entry)) (now (heights .entry)) root) s (run (placing (treeOf (now (pairs .entry)) (now (parents .entry)) (now (heights .entry)) root) k) between) ⌝ }
 {
     let u = between.uniform();
     let last = u.supply;
     if u.ok {
         let lower = floor(pairs, heights, k);
-        let upper = reads::height(heights, reads::parent(parents, k));
-        match calls::interpolate(lower, upper, u.value) {
+        let p = parents[k] as usize;
+        match calls::interpolate(lower, heights[p], u.value) {
             Height::At(x) => {
-                edits::set_height(heights, k, x);
+                heights[k] = x;
                 return Turn {
                     turned: Turned::Moved(root, Ratio::Even),
                     supply: last,
@@ -110,24 +154,27 @@ fn node_height_turn(
     root: usize,
     s: Supply,
 ) -> Turn
-    ensures { λ r. ⌜ after r (now (pairs .entry)) (now (parents .entry)) (now (heights .exit)) ≡ turnOf (treeOf (now (pairs .entry)) (now (parents .entry)) (now (heights .entry)) root) s (run (Programs.nodeHeight (treeOf (now (pairs .entry)) (now (parents .entry)) (now (heights .entry)) root)) s) ⌝ }
+    ensures { λ r. ⌜ (Valid (nodesOf (now (pairs .entry))) (treeOf (now (pairs .entry)) (now (parents .entry)) (now (heights .entry)) root) → after r (now (pairs .entry)) (now (parents .entry)) (now (heights .exit)) ≡ turnOf (treeOf (now (pairs .entry)) (now (parents .entry)) (now (heights .entry)) root) s (run (Programs.nodeHeight (treeOf (now (pairs .entry)) (now (parents .entry)) (now (heights .entry)) root)) s)) ⌝ }
 {
-    let n = pairs.len() / 2;
-    if calls::is_one_internal(n) {
+    let n = heights.len();
+    if is_shaped(pairs, parents, n) {
+        if n / 2 < 2 {
+            return stay(s);
+        }
+        let d = non_root_internal(s, n, root);
+        let between = d.supply;
+        if d.ok {
+            if has_kin(pairs, parents, heights, d.value) {
+                return place(pairs, parents, heights, root, d.value, between, s);
+            }
+            return stay(s);
+        }
         return Turn {
-            turned: Turned::Declined,
+            turned: Turned::Spent,
             supply: s,
         };
     }
-    let d = non_root_internal(s, n, root);
-    let between = d.supply;
-    if d.ok {
-        return place(pairs, parents, heights, root, d.value, between, s);
-    }
-    Turn {
-        turned: Turned::Spent,
-        supply: s,
-    }
+    stay(s)
 }
 
 // NodeHeight, by at most `allowance` draws, the tree being left unvalidated.
@@ -177,6 +224,8 @@ pub fn node_height(
     }
 }
 
+// ---- RootScale
+
 // The root's height times a drawn factor; declined where that is under a child.
 fn root_scale_turn(
     pairs: &[u16],
@@ -186,30 +235,30 @@ fn root_scale_turn(
     tuning: f64,
     s: Supply,
 ) -> Turn
-    ensures { λ r. ⌜ after r (now (pairs .entry)) (now (parents .entry)) (now (heights .exit)) ≡ turnOf (treeOf (now (pairs .entry)) (now (parents .entry)) (now (heights .entry)) root) s (run (Programs.rootScale tuning (treeOf (now (pairs .entry)) (now (parents .entry)) (now (heights .entry)) root)) s) ⌝ }
+    ensures { λ r. ⌜ (Valid (nodesOf (now (pairs .entry))) (treeOf (now (pairs .entry)) (now (parents .entry)) (now (heights .entry)) root) → after r (now (pairs .entry)) (now (parents .entry)) (now (heights .exit)) ≡ turnOf (treeOf (now (pairs .entry)) (now (parents .entry)) (now (heights .entry)) root) s (run (Programs.rootScale tuning (treeOf (now (pairs .entry)) (now (parents .entry)) (now (heights .entry)) root)) s)) ⌝ }
 {
     let u = s.uniform();
     let next = u.supply;
     if u.ok {
-        let f = calls::scaler(tuning, u.value);
-        let x = reads::height(heights, root) * f;
-        if real::is_finite(x) {
-            if x < floor(pairs, heights, root) {
+        if has_children(pairs, heights, root) {
+            let f = calls::scaler(tuning, u.value);
+            let x = heights[root] * f;
+            if real::is_finite(x) {
+                if x < floor(pairs, heights, root) {
+                    return stay(next);
+                }
+                heights[root] = x;
                 return Turn {
-                    turned: Turned::Declined,
+                    turned: Turned::Moved(root, Ratio::Power(f, -1)),
                     supply: next,
                 };
             }
-            edits::set_height(heights, root, x);
             return Turn {
-                turned: Turned::Moved(root, Ratio::Power(f, -1)),
+                turned: Turned::NotFinite(root),
                 supply: next,
             };
         }
-        return Turn {
-            turned: Turned::NotFinite(root),
-            supply: next,
-        };
+        return stay(next);
     }
     Turn {
         turned: Turned::Spent,
@@ -267,6 +316,8 @@ pub fn root_scale(
     }
 }
 
+// ---- TreeScale
+
 // The lowest internal node whose height times f is not finite, or the number of nodes where none is.
 fn lowest_overflow(heights: &[f64], f: f64) -> usize
     ensures { λ r. ⌜ r ≡ least (overflows (length (now (heights .entry))) (heightsOf (now (heights .entry))) f) (length (now (heights .entry))) ⌝ }
@@ -294,14 +345,12 @@ fn scale_heights(heights: &mut [f64], f: f64)
     }
 }
 
-// The factor to the power of the internal nodes of n less 2, of as many nodes as a tree may have.
+// The factor to the power of the internal nodes of n less 2.
 fn tree_scale_ratio(n: usize, f: f64) -> Ratio
-    ensures { λ r. ⌜ (n ≤ 4095 → r ≡ treeScaleRatio n f) ⌝ }
+    requires { ⌜ n ≤ 4095 ⌝ }
+    ensures { λ r. ⌜ r ≡ treeScaleRatio n f ⌝ }
 {
-    if n <= 4095 {
-        return Ratio::Power(f, (n - (n + 1) / 2) as i32 - 2);
-    }
-    Ratio::Even
+    Ratio::Power(f, (n / 2) as i32 - 2)
 }
 
 // Every internal height times a drawn factor. No height is above the root's, so that every product is finite where the root's is.
@@ -318,19 +367,22 @@ fn tree_scale_turn(
     let u = s.uniform();
     let next = u.supply;
     if u.ok {
-        let f = calls::scaler(tuning, u.value);
-        if real::is_finite(reads::height(heights, root) * f) {
-            let ratio = tree_scale_ratio(pairs.len() / 2, f);
-            scale_heights(heights, f);
+        if is_scalable(heights, root) {
+            let f = calls::scaler(tuning, u.value);
+            if real::is_finite(heights[root] * f) {
+                let ratio = tree_scale_ratio(heights.len(), f);
+                scale_heights(heights, f);
+                return Turn {
+                    turned: Turned::Moved(root, ratio),
+                    supply: next,
+                };
+            }
             return Turn {
-                turned: Turned::Moved(root, ratio),
+                turned: Turned::NotFinite(lowest_overflow(heights, f)),
                 supply: next,
             };
         }
-        return Turn {
-            turned: Turned::NotFinite(lowest_overflow(heights, f)),
-            supply: next,
-        };
+        return stay(next);
     }
     Turn {
         turned: Turned::Spent,

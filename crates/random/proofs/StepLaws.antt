@@ -1,17 +1,14 @@
 -- The ways through the code that makes one draw: the draw itself, and the draw taken for a uniform or a side. Assumes nothing.
-use mathlib.Core.Path.{_≡_, _∙_, subst⁻¹}
+use mathlib.Core.Path.{_≡_}
 use mathlib.Core.List.{[], _∷_}
 use Prim.Native.Nat.{ℕ, _+_, _*_, _/_, _%_, _^_, _<_}
-use native.Mathlib.Nat.{le-of-lt}
 use lib.Bits.{bitXor}
-use lib.Dec.{T, eqb, le→leb}
-use lib.IntN.{pos}
-use lib.Ieee.{binary64, div, ofInt, inFloat}
+use lib.Dec.{eqb}
+use lib.Ieee.{Float}
 use lib.ListN.{getD}
 use Rattle.words.specs.Words.{rotl}
 use Rattle.random.specs.Xoshiro.{output, step, stepped}
 use Rattle.random.specs.Generator.{fromState, wordOf, next, uniformOf, firstSide, drawnWord, drawnUniform, drawnCoin}
-use Rattle.random.specs.UniformLaws.{word-lt, top-lt, uniform-quotient}
 use Rattle.random.specs.declared.Random.{Random}
 use Rattle.random.specs.declared.DrawnWord.{DrawnWord}
 
@@ -32,20 +29,11 @@ drawn-word g sum turned value last a b c d = rw (c, b, a, d)
 
 -- d is the draw that was made
 module _ (g : Random) (d : DrawnWord) (e : d ≡ drawnWord g) where
-  value-lt : d .value < 2 ^ 64
-  value-lt = subst⁻¹ (λ (x : DrawnWord). x .value < 2 ^ 64) e (word-lt g)
-
-  pub top-fits : T (inFloat binary64 (pos (d .value / 2 ^ 11)))
-  unfolding inFloat
-  top-fits = le→leb (d .value / 2 ^ 11) (2 ^ 53) (le-of-lt (top-lt (d .value) value-lt))
-
-  pub drawn-uniform : record { value = div binary64 (ofInt binary64 (pos (d .value / 2 ^ 11))) (ofInt binary64 (pos (2 ^ 53))); random = d .random } ≡ drawnUniform g
-  drawn-uniform =
-      (λ i. record { value = uniform-quotient (d .value) value-lt i; random = d .random })
-      ∙ (λ i. record { value = uniformOf (e i .value); random = e i .random })
+  pub drawn-uniform : (x : Float) → x ≡ uniformOf (d .value) → record { value = x; random = d .random } ≡ drawnUniform g
+  drawn-uniform x ex = rw (ex, e)
 
   pub drawn-coin : record { value = eqb (d .value / 2 ^ 63) 1; random = d .random } ≡ drawnCoin g
   unfolding firstSide
   drawn-coin = rw e
 
-pub ruleset stepLaws = (drawn-word, top-fits, drawn-uniform, drawn-coin)
+pub ruleset stepLaws = (drawn-word, drawn-uniform, drawn-coin)

@@ -1,8 +1,8 @@
 -- Programs of draws, and what it is to run one with a limited number of draws. A program is data, so a law shown by induction on programs
 -- holds for every call that is defined by one. Definitions only; the laws are in DrawLaws. Assumes nothing.
-use mathlib.Core.Bool.{Bool, true, false, cond, _&&_}
-use Prim.Native.Nat.{ℕ, zero, suc, _*_, _/_, _%_, _^_}
-use lib.Dec.{leb, ltb}
+use mathlib.Core.Bool.{Bool, true, false, not, cond, _&&_}
+use Prim.Native.Nat.{ℕ, zero, suc, _+_, _*_, _/_, _%_, _^_}
+use lib.Dec.{leb, ltb, eqb}
 use lib.Ieee.{Float, binary64, ofBits}
 use Rattle.random.specs.Generator.{wordOf, next, uniformOf, firstSide}
 use Rattle.random.specs.declared.Random.{Random}
@@ -51,6 +51,10 @@ fair n w = fairLow n (w * n % 2 ^ 64)
 -- "the high word of draw times n"
 unfoldable pub below : ℕ → Number
 below n = map (λ w. w * n / 2 ^ 64) (until (fair n) word)
+
+-- a number that is base more than one below n, and not the other one
+unfoldable pub belowOther : ℕ → ℕ → ℕ → Number
+belowOther n base other = until (λ k. not (eqb k other)) (map (λ k. base + k) (below n))
 
 -- ---- running a program from a supply: a generator with the draws that are left to it
 

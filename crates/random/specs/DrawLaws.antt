@@ -3,15 +3,15 @@
 -- other; how a number is drawn again, for loops; and what is drawn is in range (`word-yields` and on). What these laws say is defined in
 -- Lawful, and the laws on the code's own structs are in SupplyLaws. Assumes nothing.
 use mathlib.Core.Path.{_≡_, refl, sym, ap, _∙_, subst}
-use mathlib.Core.Bool.{Bool, true, false, cond, and-eq-true-iff}
+use mathlib.Core.Bool.{Bool, true, false, not, cond, and-eq-true-iff}
 use Prim.Native.Nat.{ℕ, zero, suc, _+_, _-_, _*_, _/_, _%_, _^_, _≤_, _<_}
 use native.Mathlib.Nat.{div-lt-iff-lt-mul, mul-lt-mul-of-pos-right, mul-comm}
 use native.Mathlib.Omega.{arith}
-use lib.Dec.{lit<, ltb, leb}
+use lib.Dec.{lit<, ltb, leb, eqb}
 use borrow.Author.Tests.{ltb-true}
 use Rattle.random.specs.Generator.{wordOf, next, after, uniformOf}
 use Rattle.random.specs.UniformLaws.{word-lt, UnitFraction, uniform-unit}
-use Rattle.random.specs.Draw.{Number, word, until, map, Draw, return, draws, draw, _>>=_, uniform, fair, below, Drawn, spent, got, onward, wordFrom, untilFrom, pick, run}
+use Rattle.random.specs.Draw.{Number, word, until, map, Draw, return, draws, draw, _>>=_, uniform, fair, below, belowOther, Drawn, spent, got, onward, wordFrom, untilFrom, pick, run}
 use Rattle.random.specs.Lawful.{more, Stepped, Lawful, Taking, Yields}
 use Rattle.random.specs.declared.Random.{Random}
 use Rattle.random.specs.declared.Supply.{Supply}
@@ -277,6 +277,27 @@ module _ (test : ℕ → Bool) (d : Number) where
   pub until-again : (s : Supply) (k : ℕ) (u : Supply) → pick d s ≡ got k u → test k ≡ false → pick (until test d) s ≡ pick (until test d) u
   unfolding onward pick
   until-again s k u e h = let z = pick-taking d s k u e in once s ∙ rw (e, h) (enough test (pick d) (pick-taking d) (s .left) (u .left) u (omega arith) (omega arith))
+
+  -- two supplies that draw alike go on alike
+  pub until-on : (s u : Supply) → pick d s ≡ pick d u → pick (until test d) s ≡ pick (until test d) u
+  until-on s u e = go (pick d u) refl
+    where
+      go : (x : Drawn ℕ) → pick d u ≡ x → pick (until test d) s ≡ pick (until test d) u
+      go spent q = until-spent s (e ∙ q) ∙ sym (until-spent u q)
+      go (got k v) q = tested (test k) refl
+        where
+          tested : (b : Bool) → test k ≡ b → pick (until test d) s ≡ pick (until test d) u
+          tested true h = until-found s k v (e ∙ q) h ∙ sym (until-found u k v q h)
+          tested false h = until-again s k v (e ∙ q) h ∙ sym (until-again u k v q h)
+
+-- no more than a number below n
+pub other-plain : (n other : ℕ) (s : Supply) → pick (belowOther n 0 other) s ≡ pick (until (λ k. not (eqb k other)) (below n)) s
+unfolding belowOther pick onward
+other-plain n other s = ap (λ (d : Supply → Drawn ℕ). untilFrom (s .left) (λ k. not (eqb k other)) d s) (λ i u. plain (pick (below n) u) i)
+  where
+    plain : (x : Drawn ℕ) → onward x (λ k u. got (0 + k) u) ≡ x
+    plain spent = refl
+    plain (got k u) = let e : 0 + k ≡ k = omega arith in ap (λ (m : ℕ). got m u) e
 
 -- ---- what is drawn is in range
 

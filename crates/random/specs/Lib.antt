@@ -5,6 +5,7 @@ pub mod Generator
 pub mod Draw
 pub mod BelowCall
 pub mod Lawful
+pub mod SumLaws
 pub mod UniformLaws
 pub mod DrawLaws
 pub mod SupplyLaws

@@ -3,10 +3,10 @@
 // Assumes nothing.
 ghost use mathlib.Core.Bool.{_&&_};
 ghost use mathlib.Core.Path.{_≡_};
-ghost use Prim.Native.Nat.{_%_, _^_, _<_};
+ghost use Prim.Native.Nat.{_+_, _%_, _^_, _<_};
 ghost use Rattle.random.specs.SplitMix.{advance, mix};
-ghost use Rattle.random.specs.Generator.{stateOf, fromState, seeded, drawnWord, drawnUniform, drawnCoin};
-ghost use Rattle.random.specs.Draw.{below, uniform, coin, fairLow, pick, run, countable, allowed, drawnNumber, drawnReal, drawnSide};
+ghost use Rattle.random.specs.Generator.{stateOf, fromState, seeded, uniformOf, drawnWord, drawnUniform, drawnCoin};
+ghost use Rattle.random.specs.Draw.{below, belowOther, uniform, coin, fairLow, pick, run, countable, allowed, drawnNumber, drawnReal, drawnSide};
 ghost use Rattle.random.specs.BelowCall.{belowCall};
 use answer::Refusal;
 use std::num::wrapping_add_u64;
@@ -18,6 +18,11 @@ use words::wrapping_mul;
 const LARGEST_N: usize = 0x1_0000_0000;
 
 const LARGEST_ALLOWANCE: u32 = 65535;
+
+// The bits of 2^31 and of 1/2, whose last places count 2^-21 and 2^-53.
+const HIGH_BITS: u64 = 0x41e0_0000_0000_0000;
+
+const LOW_BITS: u64 = 0x3fe0_0000_0000_0000;
 
 // The generator. All four words may be zero.
 pub struct Random {
@@ -68,6 +73,16 @@ fn mixed(x: u64) -> u64
     let y = wrapping_mul(x ^ (x >> 30), 0xbf58_476d_1ce4_e5b9);
     let z = wrapping_mul(y ^ (y >> 27), 0x94d0_49bb_1331_11eb);
     z ^ (z >> 31)
+}
+
+// A draw's top 53 bits over 2^53: the upper 21 are put into the last places of 2^31, the other 32 into those of 1/2, and both powers are taken
+// off again, each step exactly. A cast of the bits would wait for whatever its register held before, as the compiler casts.
+fn unit(w: u64) -> f64
+    ensures { λ r. ⌜ r ≡ uniformOf w ⌝ }
+{
+    let high = f64::from_bits(HIGH_BITS + (w >> 43));
+    let low = f64::from_bits(LOW_BITS + (w >> 11) % 0x1_0000_0000);
+    (high - 2147483648.5) + low
 }
 
 impl Random {
@@ -127,7 +142,7 @@ impl Random {
         let w = self.next_u64();
         let random = w.random;
         DrawnUniform {
-            value: (w.value >> 11) as f64 / (1u64 << 53) as f64,
+            value: unit(w.value),
             random,
         }
     }
@@ -192,12 +207,16 @@ fn in_limits(n: usize, allowance: u32) -> bool
     is_countable(n) && is_allowed(allowance)
 }
 
-// 2^64 mod n.
+// 2^64 mod n: one more than the remainder of 2^64 - 1, which the compiler works out where it is needed and not before.
 fn threshold(n: u64) -> u64
     requires { ⌜ 0 < n ⌝ }
     ensures { λ r. ⌜ r ≡ 2 ^ 64 % n ⌝ }
 {
-    (u64::MAX - n + 1) % n
+    let below = u64::MAX % n;
+    if below + 1 == n {
+        return 0;
+    }
+    below + 1
 }
 
 // Whether a number below n may be taken that has this low word. The remainder, which is below n, is worked out only where it can matter.
@@ -258,6 +277,36 @@ impl Supply {
                     value: p.high as usize,
                     supply: Supply { random, left },
                 };
+            }
+        }
+        DrawnNumber {
+            ok: false,
+            value: 0,
+            supply: self,
+        }
+    }
+
+    // A number that is `base` more than one below n, drawn again while it is `other`: one loop for both reasons to draw again.
+    pub fn below_other(self, n: usize, base: usize, other: usize) -> DrawnNumber
+        requires { ⌜ base + n < 2 ^ 64 ⌝ }
+        ensures { λ r. ⌜ r ≡ drawnNumber self (pick (belowOther n base other) self) ⌝ }
+    {
+        let mut random = self.random;
+        let mut left = self.left;
+        while 0 < left {
+            let w = random.next_u64();
+            random = w.random;
+            left -= 1;
+            let p = wide_mul(w.value, n as u64);
+            if is_fair(p.low, n as u64) {
+                let value = base + p.high as usize;
+                if value != other {
+                    return DrawnNumber {
+                        ok: true,
+                        value,
+                        supply: Supply { random, left },
+                    };
+                }
             }
         }
         DrawnNumber {

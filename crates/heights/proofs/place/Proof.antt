@@ -1,54 +1,65 @@
 -- `heights::place` meets its contract. Assumes nothing.
 use borrow.Author.Needs.{needs}
+use Rattle.heights.proofs.RangeLaws.{kinLaws}
 use Rattle.heights.proofs.NodeHeightLaws.{placeLaws, place-outside}
 use Rattle.heights.proofs.place.Statement.{statement}
 use Rattle.heights.proofs.place.Tie as tie
 
 uniform-requires : tie.Need-uniform-requires
-uniform-requires c κs = search (placeLaws, needs)
+uniform-requires c κs = search (kinLaws, placeLaws, needs)
 
 floor-requires : tie.Need-floor-requires
-floor-requires c κs = search (placeLaws, needs)
+floor-requires c κs = search (kinLaws, placeLaws, needs)
 
-parent-requires : tie.Need-parent-requires
-parent-requires c κs = search (placeLaws, needs)
+mul-p : tie.Need-mul-p
+mul-p c = search (kinLaws, placeLaws, needs)
 
-height-requires : tie.Need-height-requires
-height-requires c κs = search (placeLaws, needs)
+shared-slice-read-p : tie.Need-shared-slice-read-p
+shared-slice-read-p c = search (kinLaws, placeLaws, needs)
+
+cast-p : tie.Need-cast-p
+cast-p c = search (kinLaws, placeLaws, needs)
+
+mul-interpolate : tie.Need-mul-interpolate
+mul-interpolate c = search (kinLaws, placeLaws, needs)
+
+slice-read-interpolate : tie.Need-slice-read-interpolate
+slice-read-interpolate c = search (kinLaws, placeLaws, needs)
 
 interpolate-requires : tie.Need-interpolate-requires
-interpolate-requires c κs = search (placeLaws, needs)
+interpolate-requires c κs = search (kinLaws, placeLaws, needs)
 
 enum-known-x : tie.Need-enum-known-x
-enum-known-x c = search (placeLaws, needs)
+enum-known-x c = search (kinLaws, placeLaws, needs)
 
-set-height-requires : tie.Need-set-height-requires
-set-height-requires c κs = search (placeLaws, needs)
+mul-heights : tie.Need-mul-heights
+mul-heights c = search (kinLaws, placeLaws, needs)
+
+slice-write-heights : tie.Need-slice-write-heights
+slice-write-heights c = search (kinLaws, placeLaws, needs)
 
 same-length : tie.Need-same-length
-same-length c = search (placeLaws, needs)
+same-length c = search (kinLaws, placeLaws, needs)
 
 returns : tie.Need-returns
-returns c = search (placeLaws, needs)
+returns c = search (kinLaws, placeLaws, needs)
 
 enum-told : tie.Need-enum-told
-enum-told c = search (placeLaws, needs)
+enum-told c = search (kinLaws, placeLaws, needs)
 
 same-length-2 : tie.Need-same-length-2
-same-length-2 c = search (placeLaws, needs)
+same-length-2 c = search (kinLaws, placeLaws, needs)
 
 returns-2 : tie.Need-returns-2
 returns-2 c =
     let y = c .before .before in
-    let p = y .before .before in
-    let l = p .before .before in
+    let l = y .before .before .before in
     let u = l .before .before .before .before in
     place-outside _ _ _ _ _ _ _ (u .uniform .result) (u .uniform .ensures) (l .before .before .if1 .taken) (l .floor .result) (l .floor .ensures)
-    (p .parent .result) (p .parent .ensures) (y .before .height .result) (y .before .height .ensures) (y .interpolate .result) (y .interpolate .ensures)
-    (c .enum-told .given .1)
+    (y .interpolate .result) (y .interpolate .ensures) (c .enum-told .given .1)
 
 returns-3 : tie.Need-returns-3
-returns-3 c = search (placeLaws, needs)
+returns-3 c = search (kinLaws, placeLaws, needs)
 
 pub place-spec : {M : Type 1} → statement M
 place-spec =
@@ -56,11 +67,15 @@ place-spec =
     (tie.spec
     uniform-requires
     floor-requires
-    parent-requires
-    height-requires
+    mul-p
+    shared-slice-read-p
+    cast-p
+    mul-interpolate
+    slice-read-interpolate
     interpolate-requires
     enum-known-x
-    set-height-requires
+    mul-heights
+    slice-write-heights
     same-length
     returns
     enum-told

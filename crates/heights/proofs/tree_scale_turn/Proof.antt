@@ -1,17 +1,23 @@
 -- `heights::tree_scale_turn` meets its contract. Assumes nothing.
 use borrow.Author.Needs.{needs}
-use Rattle.heights.proofs.TreeScaleLaws.{treeScaleLaws}
+use Rattle.heights.proofs.TreeScaleLaws.{treeScaleLaws, tree-not-finite}
 use Rattle.heights.proofs.tree_scale_turn.Statement.{statement}
 use Rattle.heights.proofs.tree_scale_turn.Tie as tie
 
 uniform-requires : tie.Need-uniform-requires
 uniform-requires c κs = search (treeScaleLaws, needs)
 
+is-scalable-requires : tie.Need-is-scalable-requires
+is-scalable-requires c κs = search (treeScaleLaws, needs)
+
 scaler-requires : tie.Need-scaler-requires
 scaler-requires c κs = search (treeScaleLaws, needs)
 
-height-requires : tie.Need-height-requires
-height-requires c κs = search (treeScaleLaws, needs)
+mul-is-finite : tie.Need-mul-is-finite
+mul-is-finite c = search (treeScaleLaws, needs)
+
+slice-read-is-finite : tie.Need-slice-read-is-finite
+slice-read-is-finite c = search (treeScaleLaws, needs)
 
 is-finite-requires : tie.Need-is-finite-requires
 is-finite-requires c κs = search (treeScaleLaws, needs)
@@ -35,18 +41,36 @@ same-length-2 : tie.Need-same-length-2
 same-length-2 c = search (treeScaleLaws, needs)
 
 returns-2 : tie.Need-returns-2
-returns-2 c = λ v. search (treeScaleLaws, needs)
+returns-2 c = λ v. (
+    let i = c .before .before in
+    let b = i .before in
+    let f = b .before .before in
+    let w = f .before .before .before .before in
+    let u = w .before .before in
+    tree-not-finite _ _ _ _ _ _ (u .uniform .result) (u .uniform .ensures) v (w .if1 .taken) (f .scaler .result) (f .scaler .ensures) (b .is-finite .result)
+    (b .is-finite .ensures) (i .if3 .left) (c .lowest-overflow .result) (c .lowest-overflow .ensures))
+
+stay-requires : tie.Need-stay-requires
+stay-requires c κs = search (treeScaleLaws, needs)
+
+same-length-3 : tie.Need-same-length-3
+same-length-3 c = search (treeScaleLaws, needs)
 
 returns-3 : tie.Need-returns-3
 returns-3 c = λ v. search (treeScaleLaws, needs)
+
+returns-4 : tie.Need-returns-4
+returns-4 c = λ v. search (treeScaleLaws, needs)
 
 pub tree-scale-turn-spec : {M : Type 1} → statement M
 tree-scale-turn-spec =
     tie.close
     (tie.spec
     uniform-requires
+    is-scalable-requires
     scaler-requires
-    height-requires
+    mul-is-finite
+    slice-read-is-finite
     is-finite-requires
     tree-scale-ratio-requires
     scale-heights-requires
@@ -55,4 +79,7 @@ tree-scale-turn-spec =
     lowest-overflow-requires
     same-length-2
     returns-2
-    returns-3)
+    stay-requires
+    same-length-3
+    returns-3
+    returns-4)
