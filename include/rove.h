@@ -9,7 +9,7 @@
  * A height is finite, not negative, and no greater than the parent's. rove_new fills the parents and the root from pairs and heights. The calls validate
  * the tree that they are given, and refuse what rove_new would not accept.
  *
- * The record. The last slice of a call, `words`, is its record: at least ROVE_WORDS 64-bit words, by which it is given its numbers and by which it
+ * The record. The first slice of a call, `words`, is its record: at least ROVE_WORDS 64-bit words, by which it is given its numbers and by which it
  * answers. A float stands in a word by its bits (rove_bits, rove_real); every NaN is one and the same. Every call takes any words and any slices.
  *
  * The answer. A call returns its answer code, ROVE_DONE to ROVE_NO_RECORD, and writes it into word ROVE_ANSWER too:
@@ -100,7 +100,7 @@ static inline double rove_real(uint64_t bits)
 /* ---- the generator: xoshiro256++, seeded through SplitMix64 */
 
 /* The generator of a seed, into words 0-3; no other word is written. */
-uint64_t rove_seed(uint64_t seed, uint64_t *words, size_t words_len);
+uint64_t rove_seed(uint64_t *words, size_t words_len, uint64_t seed);
 
 /* One draw, into ROVE_FIRST. Asks for no allowance. */
 uint64_t rove_next_u64(uint64_t *words, size_t words_len);
@@ -111,60 +111,60 @@ uint64_t rove_below(uint64_t *words, size_t words_len);
 /* ---- the tree */
 
 /* Tree::new: fills the parents, and ROVE_ROOT. */
-uint64_t rove_new(const uint16_t *pairs, size_t pairs_len, const double *heights, size_t heights_len, uint16_t *parents, size_t parents_len,
-                  uint64_t *words, size_t words_len);
+uint64_t rove_new(uint64_t *words, size_t words_len, const uint16_t *pairs, size_t pairs_len, const double *heights, size_t heights_len,
+                  uint16_t *parents, size_t parents_len);
 
 /* Whether pairs, parents, heights and ROVE_ROOT are a tree. */
-uint64_t rove_validate(const uint16_t *pairs, size_t pairs_len, const uint16_t *parents, size_t parents_len, const double *heights, size_t heights_len,
-                       uint64_t *words, size_t words_len);
+uint64_t rove_validate(uint64_t *words, size_t words_len, const uint16_t *pairs, size_t pairs_len, const uint16_t *parents, size_t parents_len,
+                       const double *heights, size_t heights_len);
 
 /* Every node with both children before their parent, into `order`, which has one place for each node. */
-uint64_t rove_postorder(const uint16_t *pairs, size_t pairs_len, const uint16_t *parents, size_t parents_len, const double *heights, size_t heights_len,
-                        uint16_t *order, size_t order_len, uint64_t *words, size_t words_len);
+uint64_t rove_postorder(uint64_t *words, size_t words_len, const uint16_t *pairs, size_t pairs_len, const uint16_t *parents, size_t parents_len,
+                        const double *heights, size_t heights_len, uint16_t *order, size_t order_len);
 
 /* ---- the moves. Each is given ROVE_GENERATOR, ROVE_ROOT and ROVE_ALLOWANCE. */
 
-uint64_t rove_node_height(const uint16_t *pairs, size_t pairs_len, const uint16_t *parents, size_t parents_len, double *heights, size_t heights_len,
-                          uint64_t *words, size_t words_len);
+uint64_t rove_node_height(uint64_t *words, size_t words_len, const uint16_t *pairs, size_t pairs_len, const uint16_t *parents, size_t parents_len,
+                          double *heights, size_t heights_len);
 
 /* SubtreeSlide is two calls. The first draws its node, into ROVE_NODE, and two uniforms, whose bits go into ROVE_FIRST and ROVE_SECOND. The host
  * forms the step from these and writes it into ROVE_TUNING for the second, which takes node and step. */
-uint64_t rove_slide_start(const uint16_t *pairs, size_t pairs_len, const uint16_t *parents, size_t parents_len, const double *heights,
-                          size_t heights_len, uint64_t *words, size_t words_len);
-uint64_t rove_subtree_slide(uint16_t *pairs, size_t pairs_len, uint16_t *parents, size_t parents_len, double *heights, size_t heights_len,
-                            uint64_t *words, size_t words_len);
+uint64_t rove_slide_start(uint64_t *words, size_t words_len, const uint16_t *pairs, size_t pairs_len, const uint16_t *parents, size_t parents_len,
+                          const double *heights, size_t heights_len);
+uint64_t rove_subtree_slide(uint64_t *words, size_t words_len, uint16_t *pairs, size_t pairs_len, uint16_t *parents, size_t parents_len,
+                            double *heights, size_t heights_len);
 
-uint64_t rove_narrow_exchange(uint16_t *pairs, size_t pairs_len, uint16_t *parents, size_t parents_len, const double *heights, size_t heights_len,
-                              uint64_t *words, size_t words_len);
-uint64_t rove_wide_exchange(uint16_t *pairs, size_t pairs_len, uint16_t *parents, size_t parents_len, const double *heights, size_t heights_len,
-                            uint64_t *words, size_t words_len);
-uint64_t rove_wilson_balding(uint16_t *pairs, size_t pairs_len, uint16_t *parents, size_t parents_len, double *heights, size_t heights_len,
-                             uint64_t *words, size_t words_len);
+uint64_t rove_narrow_exchange(uint64_t *words, size_t words_len, uint16_t *pairs, size_t pairs_len, uint16_t *parents, size_t parents_len,
+                              const double *heights, size_t heights_len);
+uint64_t rove_wide_exchange(uint64_t *words, size_t words_len, uint16_t *pairs, size_t pairs_len, uint16_t *parents, size_t parents_len,
+                            const double *heights, size_t heights_len);
+uint64_t rove_wilson_balding(uint64_t *words, size_t words_len, uint16_t *pairs, size_t pairs_len, uint16_t *parents, size_t parents_len,
+                             double *heights, size_t heights_len);
 
 /* With the tuning in ROVE_TUNING. */
-uint64_t rove_root_scale(const uint16_t *pairs, size_t pairs_len, const uint16_t *parents, size_t parents_len, double *heights, size_t heights_len,
-                         uint64_t *words, size_t words_len);
-uint64_t rove_tree_scale(const uint16_t *pairs, size_t pairs_len, const uint16_t *parents, size_t parents_len, double *heights, size_t heights_len,
-                         uint64_t *words, size_t words_len);
+uint64_t rove_root_scale(uint64_t *words, size_t words_len, const uint16_t *pairs, size_t pairs_len, const uint16_t *parents, size_t parents_len,
+                         double *heights, size_t heights_len);
+uint64_t rove_tree_scale(uint64_t *words, size_t words_len, const uint16_t *pairs, size_t pairs_len, const uint16_t *parents, size_t parents_len,
+                         double *heights, size_t heights_len);
 
 /* The same without validating the tree, for one that was accepted and has since been changed by these calls alone; parameters and allowance are still
  * checked. On an accepted tree each does exactly what its namesake does. On any other slices it ends and stays within them, and no more is promised. */
-uint64_t rove_node_height_unvalidated(const uint16_t *pairs, size_t pairs_len, const uint16_t *parents, size_t parents_len, double *heights,
-                                      size_t heights_len, uint64_t *words, size_t words_len);
-uint64_t rove_slide_start_unvalidated(const uint16_t *pairs, size_t pairs_len, const uint16_t *parents, size_t parents_len, const double *heights,
-                                      size_t heights_len, uint64_t *words, size_t words_len);
-uint64_t rove_subtree_slide_unvalidated(uint16_t *pairs, size_t pairs_len, uint16_t *parents, size_t parents_len, double *heights, size_t heights_len,
-                                        uint64_t *words, size_t words_len);
-uint64_t rove_narrow_exchange_unvalidated(uint16_t *pairs, size_t pairs_len, uint16_t *parents, size_t parents_len, const double *heights,
-                                          size_t heights_len, uint64_t *words, size_t words_len);
-uint64_t rove_wide_exchange_unvalidated(uint16_t *pairs, size_t pairs_len, uint16_t *parents, size_t parents_len, const double *heights,
-                                        size_t heights_len, uint64_t *words, size_t words_len);
-uint64_t rove_wilson_balding_unvalidated(uint16_t *pairs, size_t pairs_len, uint16_t *parents, size_t parents_len, double *heights, size_t heights_len,
-                                         uint64_t *words, size_t words_len);
-uint64_t rove_root_scale_unvalidated(const uint16_t *pairs, size_t pairs_len, const uint16_t *parents, size_t parents_len, double *heights,
-                                     size_t heights_len, uint64_t *words, size_t words_len);
-uint64_t rove_tree_scale_unvalidated(const uint16_t *pairs, size_t pairs_len, const uint16_t *parents, size_t parents_len, double *heights,
-                                     size_t heights_len, uint64_t *words, size_t words_len);
+uint64_t rove_node_height_unvalidated(uint64_t *words, size_t words_len, const uint16_t *pairs, size_t pairs_len, const uint16_t *parents,
+                                      size_t parents_len, double *heights, size_t heights_len);
+uint64_t rove_slide_start_unvalidated(uint64_t *words, size_t words_len, const uint16_t *pairs, size_t pairs_len, const uint16_t *parents,
+                                      size_t parents_len, const double *heights, size_t heights_len);
+uint64_t rove_subtree_slide_unvalidated(uint64_t *words, size_t words_len, uint16_t *pairs, size_t pairs_len, uint16_t *parents, size_t parents_len,
+                                        double *heights, size_t heights_len);
+uint64_t rove_narrow_exchange_unvalidated(uint64_t *words, size_t words_len, uint16_t *pairs, size_t pairs_len, uint16_t *parents, size_t parents_len,
+                                          const double *heights, size_t heights_len);
+uint64_t rove_wide_exchange_unvalidated(uint64_t *words, size_t words_len, uint16_t *pairs, size_t pairs_len, uint16_t *parents, size_t parents_len,
+                                        const double *heights, size_t heights_len);
+uint64_t rove_wilson_balding_unvalidated(uint64_t *words, size_t words_len, uint16_t *pairs, size_t pairs_len, uint16_t *parents, size_t parents_len,
+                                         double *heights, size_t heights_len);
+uint64_t rove_root_scale_unvalidated(uint64_t *words, size_t words_len, const uint16_t *pairs, size_t pairs_len, const uint16_t *parents,
+                                     size_t parents_len, double *heights, size_t heights_len);
+uint64_t rove_tree_scale_unvalidated(uint64_t *words, size_t words_len, const uint16_t *pairs, size_t pairs_len, const uint16_t *parents,
+                                     size_t parents_len, double *heights, size_t heights_len);
 
 /* ---- the state file */
 
@@ -186,18 +186,18 @@ uint64_t rove_birth_rate_scale(uint64_t *words, size_t words_len);
 uint64_t rove_relative_death_scale(uint64_t *words, size_t words_len);
 
 /* The relaxed clock: word 13 a flag, 14 sigma, which the first of the two scales; `rates` are its rates, one of which the second scales. */
-uint64_t rove_clock_sigma_scale(const double *rates, size_t rates_len, uint64_t *words, size_t words_len);
-uint64_t rove_branch_rate_scale(double *rates, size_t rates_len, uint64_t *words, size_t words_len);
+uint64_t rove_clock_sigma_scale(uint64_t *words, size_t words_len, const double *rates, size_t rates_len);
+uint64_t rove_branch_rate_scale(uint64_t *words, size_t words_len, double *rates, size_t rates_len);
 
 /* Whether sigma in word 14 and the rates are a relaxed clock. */
-uint64_t rove_clock(const double *rates, size_t rates_len, uint64_t *words, size_t words_len);
+uint64_t rove_clock(uint64_t *words, size_t words_len, const double *rates, size_t rates_len);
 
 /* The bits of a node's rate into ROVE_FIRST: sigma in word 14, the node in ROVE_NODE, the root in ROVE_ROOT. */
-uint64_t rove_branch_rate(const double *rates, size_t rates_len, uint64_t *words, size_t words_len);
+uint64_t rove_branch_rate(uint64_t *words, size_t words_len, const double *rates, size_t rates_len);
 
 /* A new sigma, from word 15 into 14; or a new rate from word 15, at the index in ROVE_NODE. ROVE_FIRST is 1 where it was stored, else 0. */
-uint64_t rove_set_sigma(const double *rates, size_t rates_len, uint64_t *words, size_t words_len);
-uint64_t rove_set_rate(double *rates, size_t rates_len, uint64_t *words, size_t words_len);
+uint64_t rove_set_sigma(uint64_t *words, size_t words_len, const double *rates, size_t rates_len);
+uint64_t rove_set_rate(uint64_t *words, size_t words_len, double *rates, size_t rates_len);
 
 /* The fossilized birth-death process in words 13 to 17, and its priors: a flag and a value for each mean, a flag and two shapes for present sampling. */
 enum {
@@ -226,22 +226,22 @@ uint64_t rove_validate_priors(uint64_t *words, size_t words_len);
 /* Tip dating, the process in words 13 to 17; `minima` and `maxima` have one age for each tip. rove_initialize puts every tip at the middle of its ages
  * and scales the internal heights to what is left under the origin. rove_propose_age is TipAge: it moves one tip, and is given ROVE_GENERATOR and
  * ROVE_ALLOWANCE. */
-uint64_t rove_initialize(const uint16_t *pairs, size_t pairs_len, const uint16_t *parents, size_t parents_len, double *heights, size_t heights_len,
-                         const double *minima, size_t minima_len, const double *maxima, size_t maxima_len, uint64_t *words, size_t words_len);
-uint64_t rove_propose_age(const uint16_t *pairs, size_t pairs_len, const uint16_t *parents, size_t parents_len, double *heights, size_t heights_len,
-                          const double *minima, size_t minima_len, const double *maxima, size_t maxima_len, uint64_t *words, size_t words_len);
+uint64_t rove_initialize(uint64_t *words, size_t words_len, const uint16_t *pairs, size_t pairs_len, const uint16_t *parents, size_t parents_len,
+                         double *heights, size_t heights_len, const double *minima, size_t minima_len, const double *maxima, size_t maxima_len);
+uint64_t rove_propose_age(uint64_t *words, size_t words_len, const uint16_t *pairs, size_t pairs_len, const uint16_t *parents, size_t parents_len,
+                          double *heights, size_t heights_len, const double *minima, size_t minima_len, const double *maxima, size_t maxima_len);
 
 /* The terms of the Yule density at the rate in word 13: the tips less 1 into ROVE_FIRST, the bits of the rate into word 14, those of the rate times the
  * total into 15; ROVE_DECLINED where the density is minus infinity. */
-uint64_t rove_yule_log_density(const uint16_t *pairs, size_t pairs_len, const uint16_t *parents, size_t parents_len, const double *heights,
-                               size_t heights_len, uint64_t *words, size_t words_len);
+uint64_t rove_yule_log_density(uint64_t *words, size_t words_len, const uint16_t *pairs, size_t pairs_len, const uint16_t *parents,
+                               size_t parents_len, const double *heights, size_t heights_len);
 
 /* Of a set of tips, `members` having one byte for each tip, which is not 0 where the tip is in the set: whether the set is monophyletic, 1 or 0 into
  * ROVE_FIRST; and the height of the first node in postorder over all of its tips, in whole thousandths, into ROVE_FIRST. */
-uint64_t rove_is_monophyletic(const uint16_t *pairs, size_t pairs_len, const uint16_t *parents, size_t parents_len, const double *heights,
-                              size_t heights_len, const uint8_t *members, size_t members_len, uint64_t *words, size_t words_len);
-uint64_t rove_clade_age(const uint16_t *pairs, size_t pairs_len, const uint16_t *parents, size_t parents_len, const double *heights, size_t heights_len,
-                        const uint8_t *members, size_t members_len, uint64_t *words, size_t words_len);
+uint64_t rove_is_monophyletic(uint64_t *words, size_t words_len, const uint16_t *pairs, size_t pairs_len, const uint16_t *parents, size_t parents_len,
+                              const double *heights, size_t heights_len, const uint8_t *members, size_t members_len);
+uint64_t rove_clade_age(uint64_t *words, size_t words_len, const uint16_t *pairs, size_t pairs_len, const uint16_t *parents, size_t parents_len,
+                        const double *heights, size_t heights_len, const uint8_t *members, size_t members_len);
 
 #ifdef __cplusplus
 }

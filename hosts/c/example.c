@@ -28,9 +28,9 @@ static void set_state(uint64_t *words)
 static void check_refusals(void)
 {
     uint64_t words[ROVE_WORDS] = {0};
-    expect(rove_validate(NULL, 0, NULL, 0, NULL, 0, words, ROVE_WORDS - 1) == ROVE_NO_RECORD && words[ROVE_KIND] == 0, "too few words");
+    expect(rove_validate(words, ROVE_WORDS - 1, NULL, 0, NULL, 0, NULL, 0) == ROVE_NO_RECORD && words[ROVE_KIND] == 0, "too few words");
     expect(rove_validate(NULL, 0, NULL, 0, NULL, 0, NULL, 0) == ROVE_NO_RECORD, "no words");
-    expect(rove_validate(NULL, 0, NULL, 0, NULL, 0, words, ROVE_WORDS) == ROVE_REFUSED, "no tree");
+    expect(rove_validate(words, ROVE_WORDS, NULL, 0, NULL, 0, NULL, 0) == ROVE_REFUSED, "no tree");
     expect(words[ROVE_ANSWER] == ROVE_REFUSED && words[ROVE_KIND] == ROVE_REFUSAL_SIZE && words[ROVE_FIRST] == 0, "the refusal of no tree");
 }
 
@@ -52,13 +52,13 @@ int main(void)
     check_refusals();
     check_draws();
 
-    expect(rove_new(pairs, 2 * NODES, heights, NODES, parents, NODES, words, ROVE_WORDS) == ROVE_DONE, "rove_new");
+    expect(rove_new(words, ROVE_WORDS, pairs, 2 * NODES, heights, NODES, parents, NODES) == ROVE_DONE, "rove_new");
     expect(words[ROVE_ROOT] == 4 && parents[0] == 3 && parents[2] == 4 && parents[4] == ROVE_NO_NODE, "root and parents");
 
     set_state(words);
     words[ROVE_ALLOWANCE] = 9;
     words[ROVE_TUNING] = rove_bits(0.5);
-    uint64_t answer = rove_root_scale(pairs, 2 * NODES, parents, NODES, heights, NODES, words, ROVE_WORDS);
+    uint64_t answer = rove_root_scale(words, ROVE_WORDS, pairs, 2 * NODES, parents, NODES, heights, NODES);
     printf("answer=%" PRIu64 " draws=%" PRIu64 "\n", answer, words[ROVE_DRAWS]);
     printf("state=%016" PRIx64 ",%016" PRIx64 ",%016" PRIx64 ",%016" PRIx64 "\n", words[0], words[1], words[2], words[3]);
     printf("ratio=%" PRIu64 ",%016" PRIx64 ",%" PRId64 "\n", words[ROVE_KIND], words[ROVE_FIRST], (int64_t)words[ROVE_SECOND]);

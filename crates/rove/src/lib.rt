@@ -1,5 +1,5 @@
 // The functions that C and Rust hosts call with a tree in memory: its generator, `new`, `validate` and `postorder`, and the seven moves. Each takes
-// slices and, last, the words of a record (crate record), and returns the answer code: 0 done, 1 declined, 2 refused, 3 where there are not enough
+// the words of a record (crate record) and then its slices, and returns the answer code: 0 done, 1 declined, 2 refused, 3 where there are not enough
 // words for a record, which changes nothing. None has a `requires`. include/rove.h declares them for C. Assumes nothing.
 ghost use mathlib.Core.Path.{_≡_};
 ghost use Prim.Native.Nat.{_≤_};
@@ -19,7 +19,7 @@ use tree::Rooted;
 
 // The generator of a seed, into words 0 to 3.
 #[no_mangle]
-pub extern "C" fn rove_seed(seed: u64, words: &mut [u64]) -> u64
+pub extern "C" fn rove_seed(words: &mut [u64], seed: u64) -> u64
     ensures { λ r. ⌜ written r (now (words .exit)) ≡ seedExported seed (now (words .entry)) ⌝ }
 {
     if record::is_record(words) {
@@ -92,10 +92,10 @@ fn put_rooted(words: &mut [u64], rooted: Rooted) -> u64
 // `Tree::new`: the parents and the root of the pairs.
 #[no_mangle]
 pub extern "C" fn rove_new(
+    words: &mut [u64],
     pairs: &[u16],
     heights: &[f64],
     parents: &mut [u16],
-    words: &mut [u64],
 ) -> u64
     ensures { λ r. ⌜ filled (written r (now (words .exit))) (now (parents .exit)) ≡ newExported (now (pairs .entry)) (now (heights .entry)) (now (parents .entry)) (now (words .entry)) ⌝ }
 {
@@ -108,10 +108,10 @@ pub extern "C" fn rove_new(
 
 #[no_mangle]
 pub extern "C" fn rove_validate(
+    words: &mut [u64],
     pairs: &[u16],
     parents: &[u16],
     heights: &[f64],
-    words: &mut [u64],
 ) -> u64
     ensures { λ r. ⌜ written r (now (words .exit)) ≡ validateExported (now (pairs .entry)) (now (parents .entry)) (now (heights .entry)) (now (words .entry)) ⌝ }
 {
@@ -125,11 +125,11 @@ pub extern "C" fn rove_validate(
 // Every node with both children before their parent, into `order`.
 #[no_mangle]
 pub extern "C" fn rove_postorder(
+    words: &mut [u64],
     pairs: &[u16],
     parents: &[u16],
     heights: &[f64],
     order: &mut [u16],
-    words: &mut [u64],
 ) -> u64
     ensures { λ r. ⌜ filled (written r (now (words .exit))) (now (order .exit)) ≡ postorderExported (now (pairs .entry)) (now (parents .entry)) (now (heights .entry)) (now (order .entry)) (now (words .entry)) ⌝ }
 {
@@ -144,10 +144,10 @@ pub extern "C" fn rove_postorder(
 
 #[no_mangle]
 pub extern "C" fn rove_node_height(
+    words: &mut [u64],
     pairs: &[u16],
     parents: &[u16],
     heights: &mut [f64],
-    words: &mut [u64],
 ) -> u64
     ensures { λ r. ⌜ left (written r (now (words .exit))) (now (pairs .entry)) (now (parents .entry)) (now (heights .exit)) ≡ exported nodeHeight (now (pairs .entry)) (now (parents .entry)) (now (heights .entry)) (now (words .entry)) ⌝ }
 {
@@ -194,10 +194,10 @@ pub fn put_started(words: &mut [u64], started: Started) -> u64
 // The first call of SubtreeSlide: a node into word 6, and two uniforms.
 #[no_mangle]
 pub extern "C" fn rove_slide_start(
+    words: &mut [u64],
     pairs: &[u16],
     parents: &[u16],
     heights: &[f64],
-    words: &mut [u64],
 ) -> u64
     ensures { λ r. ⌜ written r (now (words .exit)) ≡ startExported (now (pairs .entry)) (now (parents .entry)) (now (heights .entry)) (now (words .entry)) ⌝ }
 {
@@ -220,10 +220,10 @@ pub extern "C" fn rove_slide_start(
 // The second call of SubtreeSlide, with the node in word 6 and the step in word 7.
 #[no_mangle]
 pub extern "C" fn rove_subtree_slide(
+    words: &mut [u64],
     pairs: &mut [u16],
     parents: &mut [u16],
     heights: &mut [f64],
-    words: &mut [u64],
 ) -> u64
     ensures { λ r. ⌜ left (written r (now (words .exit))) (now (pairs .exit)) (now (parents .exit)) (now (heights .exit)) ≡ exported (subtreeSlide (nodeIn (now (words .entry))) (tuningIn (now (words .entry)))) (now (pairs .entry)) (now (parents .entry)) (now (heights .entry)) (now (words .entry)) ⌝ }
 {
@@ -249,10 +249,10 @@ pub extern "C" fn rove_subtree_slide(
 
 #[no_mangle]
 pub extern "C" fn rove_narrow_exchange(
+    words: &mut [u64],
     pairs: &mut [u16],
     parents: &mut [u16],
     heights: &[f64],
-    words: &mut [u64],
 ) -> u64
     ensures { λ r. ⌜ left (written r (now (words .exit))) (now (pairs .exit)) (now (parents .exit)) (now (heights .entry)) ≡ exported narrowExchange (now (pairs .entry)) (now (parents .entry)) (now (heights .entry)) (now (words .entry)) ⌝ }
 {
@@ -274,10 +274,10 @@ pub extern "C" fn rove_narrow_exchange(
 
 #[no_mangle]
 pub extern "C" fn rove_wide_exchange(
+    words: &mut [u64],
     pairs: &mut [u16],
     parents: &mut [u16],
     heights: &[f64],
-    words: &mut [u64],
 ) -> u64
     ensures { λ r. ⌜ left (written r (now (words .exit))) (now (pairs .exit)) (now (parents .exit)) (now (heights .entry)) ≡ exported wideExchange (now (pairs .entry)) (now (parents .entry)) (now (heights .entry)) (now (words .entry)) ⌝ }
 {
@@ -299,10 +299,10 @@ pub extern "C" fn rove_wide_exchange(
 
 #[no_mangle]
 pub extern "C" fn rove_wilson_balding(
+    words: &mut [u64],
     pairs: &mut [u16],
     parents: &mut [u16],
     heights: &mut [f64],
-    words: &mut [u64],
 ) -> u64
     ensures { λ r. ⌜ left (written r (now (words .exit))) (now (pairs .exit)) (now (parents .exit)) (now (heights .exit)) ≡ exported wilsonBalding (now (pairs .entry)) (now (parents .entry)) (now (heights .entry)) (now (words .entry)) ⌝ }
 {
@@ -325,10 +325,10 @@ pub extern "C" fn rove_wilson_balding(
 // With the tuning in word 7.
 #[no_mangle]
 pub extern "C" fn rove_root_scale(
+    words: &mut [u64],
     pairs: &[u16],
     parents: &[u16],
     heights: &mut [f64],
-    words: &mut [u64],
 ) -> u64
     ensures { λ r. ⌜ left (written r (now (words .exit))) (now (pairs .entry)) (now (parents .entry)) (now (heights .exit)) ≡ exported (rootScale (tuningIn (now (words .entry)))) (now (pairs .entry)) (now (parents .entry)) (now (heights .entry)) (now (words .entry)) ⌝ }
 {
@@ -353,10 +353,10 @@ pub extern "C" fn rove_root_scale(
 // With the tuning in word 7.
 #[no_mangle]
 pub extern "C" fn rove_tree_scale(
+    words: &mut [u64],
     pairs: &[u16],
     parents: &[u16],
     heights: &mut [f64],
-    words: &mut [u64],
 ) -> u64
     ensures { λ r. ⌜ left (written r (now (words .exit))) (now (pairs .entry)) (now (parents .entry)) (now (heights .exit)) ≡ exported (treeScale (tuningIn (now (words .entry)))) (now (pairs .entry)) (now (parents .entry)) (now (heights .entry)) (now (words .entry)) ⌝ }
 {

@@ -1,5 +1,5 @@
 // The functions that C and Rust hosts call for what moves beside a tree, and for what is asked of one: the proposals on parameters, the relaxed clock,
-// priors, the Yule density, tip dating and clades. Each takes slices and, last, the words of a record (crate record), with parameters in words 13 to 31
+// priors, the Yule density, tip dating and clades. Each takes the words of a record (crate record) and then its slices, with parameters in words 13 to 31
 // (crate record_parameters), and returns the answer code: 0 done, 1 declined, 2 refused, 3 where there are not enough words for a record, which changes
 // nothing. None has a `requires`. Assumes nothing.
 ghost use mathlib.Core.Path.{_≡_};
@@ -101,7 +101,7 @@ pub extern "C" fn rove_relative_death_scale(words: &mut [u64]) -> u64
 
 // Of the sigma in word 14, if word 13 says that there is a clock.
 #[no_mangle]
-pub extern "C" fn rove_clock_sigma_scale(rates: &[f64], words: &mut [u64]) -> u64
+pub extern "C" fn rove_clock_sigma_scale(words: &mut [u64], rates: &[f64]) -> u64
     ensures { λ r. ⌜ written r (now (words .exit)) ≡ clockSigmaExported (now (rates .entry)) (now (words .entry)) ⌝ }
 {
     if record::is_record(words) {
@@ -117,7 +117,7 @@ pub extern "C" fn rove_clock_sigma_scale(rates: &[f64], words: &mut [u64]) -> u6
 
 // Of one of the rates.
 #[no_mangle]
-pub extern "C" fn rove_branch_rate_scale(rates: &mut [f64], words: &mut [u64]) -> u64
+pub extern "C" fn rove_branch_rate_scale(words: &mut [u64], rates: &mut [f64]) -> u64
     ensures { λ r. ⌜ lent (written r (now (words .exit))) (now (rates .exit)) ≡ branchRateScaleExported (now (rates .entry)) (now (words .entry)) ⌝ }
 {
     if record::is_record(words) {
@@ -170,7 +170,7 @@ pub extern "C" fn rove_fbd_scale(words: &mut [u64]) -> u64
 
 // Whether the rates are a clock.
 #[no_mangle]
-pub extern "C" fn rove_clock(rates: &[f64], words: &mut [u64]) -> u64
+pub extern "C" fn rove_clock(words: &mut [u64], rates: &[f64]) -> u64
     ensures { λ r. ⌜ written r (now (words .exit)) ≡ clockExported (now (rates .entry)) (now (words .entry)) ⌝ }
 {
     if record::is_record(words) {
@@ -182,7 +182,7 @@ pub extern "C" fn rove_clock(rates: &[f64], words: &mut [u64]) -> u64
 
 // The rate of the branch of the node in word 6, with the root in word 4.
 #[no_mangle]
-pub extern "C" fn rove_branch_rate(rates: &[f64], words: &mut [u64]) -> u64
+pub extern "C" fn rove_branch_rate(words: &mut [u64], rates: &[f64]) -> u64
     ensures { λ r. ⌜ written r (now (words .exit)) ≡ branchRateExported (now (rates .entry)) (now (words .entry)) ⌝ }
 {
     if record::is_record(words) {
@@ -195,7 +195,7 @@ pub extern "C" fn rove_branch_rate(rates: &[f64], words: &mut [u64]) -> u64
 
 // The new sigma is in word 15.
 #[no_mangle]
-pub extern "C" fn rove_set_sigma(rates: &[f64], words: &mut [u64]) -> u64
+pub extern "C" fn rove_set_sigma(words: &mut [u64], rates: &[f64]) -> u64
     ensures { λ r. ⌜ written r (now (words .exit)) ≡ setSigmaExported (now (rates .entry)) (now (words .entry)) ⌝ }
 {
     if record::is_record(words) {
@@ -208,7 +208,7 @@ pub extern "C" fn rove_set_sigma(rates: &[f64], words: &mut [u64]) -> u64
 
 // The index is in word 6, and the new rate in word 15.
 #[no_mangle]
-pub extern "C" fn rove_set_rate(rates: &mut [f64], words: &mut [u64]) -> u64
+pub extern "C" fn rove_set_rate(words: &mut [u64], rates: &mut [f64]) -> u64
     ensures { λ r. ⌜ lent (written r (now (words .exit))) (now (rates .exit)) ≡ setRateExported (now (rates .entry)) (now (words .entry)) ⌝ }
 {
     if record::is_record(words) {
@@ -237,10 +237,10 @@ pub extern "C" fn rove_validate_priors(words: &mut [u64]) -> u64
 // At the rate in word 13.
 #[no_mangle]
 pub extern "C" fn rove_yule_log_density(
+    words: &mut [u64],
     pairs: &[u16],
     parents: &[u16],
     heights: &[f64],
-    words: &mut [u64],
 ) -> u64
     ensures { λ r. ⌜ written r (now (words .exit)) ≡ yuleExported (now (pairs .entry)) (now (parents .entry)) (now (heights .entry)) (now (words .entry)) ⌝ }
 {
@@ -257,12 +257,12 @@ pub extern "C" fn rove_yule_log_density(
 
 #[no_mangle]
 pub extern "C" fn rove_initialize(
+    words: &mut [u64],
     pairs: &[u16],
     parents: &[u16],
     heights: &mut [f64],
     minima: &[f64],
     maxima: &[f64],
-    words: &mut [u64],
 ) -> u64
     ensures { λ r. ⌜ Undecided (atFault (processIn (now (words .entry))) (now (minima .entry)) (now (maxima .entry))) (tipsOf (nodesOf (now (pairs .entry)))) (initializeExported (now (pairs .entry)) (now (parents .entry)) (now (heights .entry)) (now (minima .entry)) (now (maxima .entry)) (now (words .entry))) (lent (written r (now (words .exit))) (now (heights .exit))) ⌝ }
 {
@@ -277,12 +277,12 @@ pub extern "C" fn rove_initialize(
 
 #[no_mangle]
 pub extern "C" fn rove_propose_age(
+    words: &mut [u64],
     pairs: &[u16],
     parents: &[u16],
     heights: &mut [f64],
     minima: &[f64],
     maxima: &[f64],
-    words: &mut [u64],
 ) -> u64
     ensures { λ r. ⌜ Undecided (atFault (processIn (now (words .entry))) (now (minima .entry)) (now (maxima .entry))) (tipsOf (nodesOf (now (pairs .entry)))) (tipAgeExported (now (pairs .entry)) (now (parents .entry)) (now (heights .entry)) (now (minima .entry)) (now (maxima .entry)) (now (words .entry))) (lent (written r (now (words .exit))) (now (heights .exit))) ⌝ }
 {
@@ -311,11 +311,11 @@ pub extern "C" fn rove_propose_age(
 
 #[no_mangle]
 pub extern "C" fn rove_is_monophyletic(
+    words: &mut [u64],
     pairs: &[u16],
     parents: &[u16],
     heights: &[f64],
     members: &[u8],
-    words: &mut [u64],
 ) -> u64
     ensures { λ r. ⌜ written r (now (words .exit)) ≡ monophylyExported (now (pairs .entry)) (now (parents .entry)) (now (heights .entry)) (now (members .entry)) (now (words .entry)) ⌝ }
 {
@@ -329,11 +329,11 @@ pub extern "C" fn rove_is_monophyletic(
 
 #[no_mangle]
 pub extern "C" fn rove_clade_age(
+    words: &mut [u64],
     pairs: &[u16],
     parents: &[u16],
     heights: &[f64],
     members: &[u8],
-    words: &mut [u64],
 ) -> u64
     ensures { λ r. ⌜ written r (now (words .exit)) ≡ ageExported (now (pairs .entry)) (now (parents .entry)) (now (heights .entry)) (now (members .entry)) (now (words .entry)) ⌝ }
 {

@@ -1,6 +1,7 @@
 //! Chains of one move, from one tree and one generator: the Rust's move, the port's without validation, the Rust's with
 //! `validate` before it, and the port's checked call, each an exported function with a record that the host keeps; and the
-//! unvalidated one by the safe wrapper. Each side takes the logarithm of its ratio.
+//! unvalidated one by the safe wrapper. Each side takes the logarithm of its ratio: the host with a record by the form that the
+//! move's ratio has, the wrapper's by the record's words.
 
 use crate::rounds::{Way, line, medians};
 use cases::{Chance, Kind, Sample};
@@ -22,7 +23,7 @@ pub fn table() {
     );
     println!("|---|---|---|---|---|---|---|---|---|---|");
     for kind in Kind::ALL {
-        for (tips, times) in [(16, 4000), (101, 2000), (2048, 500)] {
+        for (tips, times) in [(16, 8000), (101, 8000), (2048, 2000)] {
             let seen = medians(times, &mut ways(kind, tips, times));
             println!("{}", line(kind.name(), &(2 * tips - 1).to_string(), &seen, &[(0, 1), (2, 3), (0, 4)]));
         }
@@ -89,26 +90,34 @@ fn rust_way(kind: Kind, mut tree: reference::tree::Tree, times: usize, validate:
 fn port_way(kind: Kind, tree: Tree, times: usize, checked: bool) -> Box<dyn FnMut()> {
     /// A chain of the first function, or of the second, which is the first without validation; each slice is read or lent.
     macro_rules! either {
-        ($name:ident, $bare:ident, [$($pairs:tt)+] [$($heights:tt)+]) => {
+        ($name:ident, $bare:ident, [$($pairs:tt)+] [$($heights:tt)+], $log:expr) => {
             if checked {
-                chain(tree, times, |t, w| {
+                let call = |t: &mut Tree, w: &mut [u64]| {
                     exports::$name($($pairs)+ t.pairs, $($pairs)+ t.parents, $($heights)+ t.heights, w)
-                })
+                };
+                chain(tree, times, call, $log)
             } else {
-                chain(tree, times, |t, w| {
+                let call = |t: &mut Tree, w: &mut [u64]| {
                     exports::$bare($($pairs)+ t.pairs, $($pairs)+ t.parents, $($heights)+ t.heights, w)
-                })
+                };
+                chain(tree, times, call, $log)
             }
         };
     }
     match kind {
-        Kind::NodeHeight => either!(rove_node_height, rove_node_height_unvalidated, [&] [&mut]),
+        Kind::NodeHeight => either!(rove_node_height, rove_node_height_unvalidated, [&] [&mut], log_even),
         Kind::SubtreeSlide => slides(tree, times, checked),
-        Kind::NarrowExchange => either!(rove_narrow_exchange, rove_narrow_exchange_unvalidated, [&mut] [&]),
-        Kind::WideExchange => either!(rove_wide_exchange, rove_wide_exchange_unvalidated, [&mut] [&]),
-        Kind::WilsonBalding => either!(rove_wilson_balding, rove_wilson_balding_unvalidated, [&mut] [&mut]),
-        Kind::RootScale => either!(rove_root_scale, rove_root_scale_unvalidated, [&] [&mut]),
-        Kind::TreeScale => either!(rove_tree_scale, rove_tree_scale_unvalidated, [&] [&mut]),
+        Kind::NarrowExchange => {
+            either!(rove_narrow_exchange, rove_narrow_exchange_unvalidated, [&mut] [&], log_counts)
+        }
+        Kind::WideExchange => {
+            either!(rove_wide_exchange, rove_wide_exchange_unvalidated, [&mut] [&], log_even)
+        }
+        Kind::WilsonBalding => {
+            either!(rove_wilson_balding, rove_wilson_balding_unvalidated, [&mut] [&mut], log_lengths)
+        }
+        Kind::RootScale => either!(rove_root_scale, rove_root_scale_unvalidated, [&] [&mut], log_power),
+        Kind::TreeScale => either!(rove_tree_scale, rove_tree_scale_unvalidated, [&] [&mut], log_power),
     }
 }
 
@@ -122,17 +131,50 @@ fn record(tree: &Tree) -> Record {
     record
 }
 
+/// The logarithms of the ratios that a move has by document 01, from the words of a call that moved: 1 over 1, two counts, two
+/// lengths, a factor to a power; and a slide's, even or of the one count that is not 1.
+fn log_even(_: &Record) -> f64 {
+    0.0
+}
+
+fn log_counts(record: &Record) -> f64 {
+    (whole(record, word::FIRST) / whole(record, word::SECOND)).ln()
+}
+
+fn log_lengths(record: &Record) -> f64 {
+    (record.float(word::FIRST) / record.float(word::SECOND)).ln()
+}
+
+fn log_power(record: &Record) -> f64 {
+    whole(record, word::SECOND) * record.float(word::FIRST).ln()
+}
+
+fn log_slide(record: &Record, step: f64) -> f64 {
+    if record.0[word::KIND] == 0 {
+        0.0
+    } else if step > 0.0 {
+        -whole(record, word::SECOND).ln()
+    } else {
+        whole(record, word::FIRST).ln()
+    }
+}
+
+fn whole(record: &Record, place: usize) -> f64 {
+    record.0[place] as i64 as f64
+}
+
 /// Calls of one function, the record being kept.
 fn chain(
     mut tree: Tree,
     times: usize,
     call: impl Fn(&mut Tree, &mut [u64]) -> u64 + 'static,
+    log: impl Fn(&Record) -> f64 + 'static,
 ) -> Box<dyn FnMut()> {
     let mut record = record(&tree);
     Box::new(move || {
         for _ in 0..times {
             let code = call(&mut tree, &mut record.0);
-            black_box((code == 0).then(|| record.ratio().ln()));
+            black_box((code == 0).then(|| log(&record)));
         }
     })
 }
@@ -159,7 +201,7 @@ fn slides(mut tree: Tree, times: usize, checked: bool) -> Box<dyn FnMut()> {
             } else {
                 exports::rove_subtree_slide_unvalidated(pairs, parents, heights, words)
             };
-            black_box((code == 0).then(|| log(record.ratio(), step)));
+            black_box((code == 0).then(|| log_slide(&record, step)));
         }
     })
 }

@@ -25,17 +25,18 @@ macro_rules! place {
     };
 }
 
-/// Functions that each take their slices, which they read or which are lent to them, and last the record's words.
+/// Functions that each take their slices, which they read or which are lent to them, and the record's words, which the C
+/// functions take first.
 macro_rules! exports {
     ($($name:ident($($slice:ident: $way:ident $t:ty),*);)*) => {
         $(
             #[inline]
             pub fn $name($($slice: slice!($way $t),)* words: &mut [u64]) -> u64 {
                 unsafe extern "C" {
-                    fn $name($($slice: pointer!($way $t), _: usize,)* words: *mut u64, _: usize) -> u64;
+                    fn $name(words: *mut u64, _: usize $(, $slice: pointer!($way $t), _: usize)*) -> u64;
                 }
                 // SAFETY: each pair is the address and the length of a slice that is borrowed for the call.
-                unsafe { $name($(place!($way $slice), $slice.len(),)* words.as_mut_ptr(), words.len()) }
+                unsafe { $name(words.as_mut_ptr(), words.len() $(, place!($way $slice), $slice.len())*) }
             }
         )*
     };
@@ -95,10 +96,10 @@ exports! {
 /// The generator of a seed, into words 0 to 3.
 pub fn rove_seed(seed: u64, words: &mut [u64]) -> u64 {
     unsafe extern "C" {
-        fn rove_seed(seed: u64, words: *mut u64, _: usize) -> u64;
+        fn rove_seed(words: *mut u64, _: usize, seed: u64) -> u64;
     }
     // SAFETY: address and length of a slice that is borrowed for the call.
-    unsafe { rove_seed(seed, words.as_mut_ptr(), words.len()) }
+    unsafe { rove_seed(words.as_mut_ptr(), words.len(), seed) }
 }
 
 /// The answer to a state file, into the first bytes of `answer`: how many there are, or 0 with nothing written where they
