@@ -1,28 +1,41 @@
 -- The ways through the code that meets a branch (`meetLaws`), that looks for branches (`crossingLaws`), and that counts them or
--- picks one (`countLaws`). Assumes nothing.
-use mathlib.Core.Path.{_≡_, sym, _∙_}
+-- picks one (`countLaws`), with what the code asks of its numbers. Assumes nothing.
+use mathlib.Core.Path.{_≡_, sym, ap, _∙_}
 use mathlib.Core.Bool.{Bool, true, false}
 use mathlib.Core.List.{List, []}
-use Prim.Native.Nat.{ℕ, suc, _+_, _-_, _^_, _≤_, _<_}
+use Prim.Native.Nat.{ℕ, suc, _+_, _-_, _*_, _/_, _%_, _≤_, _<_}
 use native.Mathlib.Omega.{arith}
-use native.Mathlib.Numerals.{add-one}
 use borrow.Author.Tests.{eq-eqb, ne-eqb}
 use lib.ListN.{getD}
 use lib.Ieee.{Float, lt, nan}
-use Rattle.tree.specs.Tree.{Tree, nodesOf, inner, firstIn, secondIn, height}
+use mir.Val.{Fits}
+use mir.Syntax.{w16}
+use Rattle.tree.specs.Tree.{nodesOf, inner, firstIn, secondIn, height}
 use Rattle.tree.specs.Given.{treeOf}
-use Rattle.branches.specs.declared.Walk.{Walk}
-use Rattle.branches.specs.Walk.{walkOf, outset, meet, walk, walkUnder, counted, picked}
-use Rattle.branches.specs.WalkLaws.{look, walk-found, walk-spent, walk-met, walk-inner, walk-tip, walk-sum}
+use Rattle.branches.specs.Walk.{Walk, outset, meet, walk, counted, picked, unpacked, Small, Ready, Holds}
+use Rattle.branches.specs.WalkLaws.{look, walk-done, walk-met, walk-inner, walk-tip}
 
 -- ---- a branch
 
-module _ (index k : ℕ) (w : Walk) where
-  pub meet-one : w .met ≡ index → walkOf k (w .met) (w .left) ≡ meet index k w
-  meet-one e = rw (eq-eqb (w .met) index e)
+module _ (index k w : ℕ) (g : Ready 65534 k w) where
+  pub meet-one : w / 65536 % 65536 ≡ index → Holds (meet index k (unpacked w)) (k * 4294967296)
+  meet-one e =
+      let h = g .node in
+      let a : k * 4294967296 / 4294967296 ≡ k = omega arith in
+      let b : k * 4294967296 / 65536 % 65536 ≡ 0 = omega arith in
+      let c : k * 4294967296 % 65536 ≡ 0 = omega arith in
+      rw (eq-eqb (w / 65536 % 65536) index e)
+      (record { same = λ i. record { found = a i; met = b i; left = c i }; small = record { found = omega arith; sum = omega arith } })
 
-  pub meet-more : (w .met ≡ index → ⊥) → walkOf (w .found) (w .met + 1) (w .left) ≡ meet index k w
-  meet-more e = rw (ne-eqb (w .met) index e, add-one)
+  pub meet-more : (w / 65536 % 65536 ≡ index → ⊥) → Holds (meet index k (unpacked w)) (w + 65536)
+  meet-more e =
+      let f = g .small .found in
+      let s = g .small .sum in
+      let a : (w + 65536) / 4294967296 ≡ w / 4294967296 = omega arith in
+      let b : (w + 65536) / 65536 % 65536 ≡ suc (w / 65536 % 65536) = omega arith in
+      let c : (w + 65536) % 65536 ≡ w % 65536 = omega arith in
+      rw (ne-eqb (w / 65536 % 65536) index e)
+      (record { same = λ i. record { found = a i; met = b i; left = c i }; small = record { found = omega arith; sum = omega arith } })
 
 pub ruleset meetLaws = (meet-one, meet-more)
 
@@ -31,56 +44,102 @@ pub ruleset meetLaws = (meet-one, meet-more)
 down-suc : (d : ℕ) → (d ≡ 0 → ⊥) → d ≡ suc (d - 1)
 down-suc d h = omega arith
 
-module _ (pairs : List ℕ) (hs : List Float) (x : Float) (index k : ℕ) (w : Walk) (d : ℕ) where
-  pub crossing-flat : d ≡ 0 → w ≡ walk d (nodesOf pairs) (treeOf pairs [] hs 0) x index k w
-  unfolding walk
-  crossing-flat e = rw e
+-- a node of the pairs is of 16 bits
+child : (pairs : List ℕ) → ((j : ℕ) → Fits w16 (getD pairs j 0)) → (c i : ℕ) → c ≡ getD pairs i 0 → c ≤ 65535
+child pairs h c i e = let p : Fits w16 (getD pairs i 0) = h i in rw e (omega arith)
 
-  module _ (D : d ≡ 0 → ⊥) where
-    pub crossing-found : w .found < 65535 → w ≡ walk d (nodesOf pairs) (treeOf pairs [] hs 0) x index k w
-    crossing-found h = rw (down-suc d D) (sym (walk-found _ _ x index k (d - 1) w h))
+-- a node is looked at
+module _ (w : ℕ) (L : w % 65536 ≡ 0 → ⊥) where
+  found-same : (w - 1) / 4294967296 ≡ w / 4294967296
+  found-same = omega arith
 
-    pub crossing-spent : w .left ≡ 0 → w ≡ walk d (nodesOf pairs) (treeOf pairs [] hs 0) x index k w
-    crossing-spent h = rw (down-suc d D) (sym (walk-spent _ _ x index k (d - 1) w h))
+  met-same : (w - 1) / 65536 % 65536 ≡ w / 65536 % 65536
+  met-same = omega arith
 
-    module _ (a : 65535 ≤ w .found) (b : w .left ≡ 0 → ⊥) (h : Float) (e : h ≡ getD hs k nan) where
+  left-less : (w - 1) % 65536 ≡ w % 65536 - 1
+  left-less = omega arith
+
+  looks : unpacked (w - 1) ≡ look (unpacked w)
+  looks = λ i. record { found = found-same i; met = met-same i; left = left-less i }
+
+  -- one more may be met then
+  less : Small 65535 w → Small 65534 (w - 1)
+  less s = let m = s .sum in record { found = rw found-same (s .found); sum = rw (met-same, left-less) (omega arith) }
+
+  small : Small 65535 w → Small 65535 (w - 1)
+  small s = let m = less s .sum in record { found = less s .found; sum = omega arith }
+
+  module _ (k : ℕ) (g : Ready 65535 k w) where
+    pub ready-meet : Ready 65534 k (w - 1)
+    ready-meet = record { node = g .node; small = less (g .small) }
+
+    pub ready-first : (pairs : List ℕ) → ((j : ℕ) → Fits w16 (getD pairs j 0)) → (c i : ℕ) → c ≡ getD pairs i 0 → Ready 65535 c (w - 1)
+    ready-first pairs h c i e = record { node = child pairs h c i e; small = small (g .small) }
+
+pub ready-second : (pairs : List ℕ) → ((j : ℕ) → Fits w16 (getD pairs j 0)) → (c i : ℕ) → c ≡ getD pairs i 0
+    → (u : Walk) (w : ℕ) → Holds u w → Ready 65535 c w
+ready-second pairs h c i e u w s = record { node = child pairs h c i e; small = s .small }
+
+module _ (pairs : List ℕ) (hs : List Float) (x : Float) (index k w d : ℕ) (g : Ready 65535 k w) where
+  abbrev Walked : ℕ → Type 0
+  Walked r = Holds (walk d (nodesOf pairs) (treeOf pairs [] hs 0) x index k (unpacked w)) r
+
+  pub crossing-spent : w % 65536 ≡ 0 → Walked w
+  crossing-spent h = record { same = sym (walk-done d _ _ x index k (unpacked w) h); small = g .small }
+
+  module _ (L : w % 65536 ≡ 0 → ⊥) where
+    pub crossing-flat : d ≡ 0 → Walked w
+    unfolding walk
+    crossing-flat e = record { same = rw e; small = g .small }
+
+    module _ (D : d ≡ 0 → ⊥) (h : Float) (e : h ≡ getD hs k nan) where
       height-is : (q : Bool) → lt h x ≡ q → lt (height (treeOf pairs [] hs 0) k) x ≡ q
       unfolding height
       height-is q y = rw (← e) y
 
-      pub crossing-met : lt h x ≡ true → (r : Walk) → r ≡ meet index k (look w) → r ≡ walk d (nodesOf pairs) (treeOf pairs [] hs 0) x index k w
-      crossing-met y r z = rw (down-suc d D) (z ∙ sym (walk-met _ _ x index k (d - 1) w a b (height-is true y)))
+      pub crossing-met : lt h x ≡ true → (r : ℕ) → Holds (meet index k (unpacked (w - 1))) r → Walked r
+      crossing-met y r z = rw (down-suc d D)
+          (record { same = z .same ∙ ap (meet index k) (looks w L) ∙ sym (walk-met _ _ x index k (d - 1) (unpacked w) L (height-is true y)); small = z .small })
 
       module _ (y : lt h x ≡ false) (i : Bool) (f : i ≡ inner (nodesOf pairs) k) where
-        pub crossing-tip : i ≡ false → look w ≡ walk d (nodesOf pairs) (treeOf pairs [] hs 0) x index k w
-        crossing-tip z = rw (down-suc d D) (sym (walk-tip _ _ x index k (d - 1) w a b (height-is false y) (sym f ∙ z)))
+        pub crossing-tip : i ≡ false → Walked (w - 1)
+        crossing-tip z = rw (down-suc d D)
+            (record { same = looks w L ∙ sym (walk-tip _ _ x index k (d - 1) (unpacked w) L (height-is false y) (sym f ∙ z)); small = small w L (g .small) })
 
-        pub crossing-inner : i ≡ true → (r : Walk) → r ≡ walkUnder (d - 1) (nodesOf pairs) (treeOf pairs [] hs 0) x index k (look w)
-            → r ≡ walk d (nodesOf pairs) (treeOf pairs [] hs 0) x index k w
-        crossing-inner z r R = rw (down-suc d D) (R ∙ sym (walk-inner _ _ x index k (d - 1) w a b (height-is false y) (sym f ∙ z)))
+        pub crossing-both : i ≡ true → (a b : ℕ) → a ≡ firstIn pairs k → b ≡ secondIn pairs k → (u r : ℕ)
+            → Holds (walk (d - 1) (nodesOf pairs) (treeOf pairs [] hs 0) x index a (unpacked (w - 1))) u
+            → Holds (walk (d - 1) (nodesOf pairs) (treeOf pairs [] hs 0) x index b (unpacked u)) r → Walked r
+        crossing-both z a b A B u r U R = rw (down-suc d D)
+            (record {
+              same = R .same ∙ (rw (U .same, looks w L, A, B)) ∙ sym (walk-inner _ _ x index k (d - 1) (unpacked w) L (height-is false y) (sym f ∙ z));
+              small = R .small;
+            })
 
-  pub crossing-both : (c j : ℕ) → c ≡ firstIn pairs k → j ≡ secondIn pairs k → (u r : Walk)
-      → u ≡ walk d (nodesOf pairs) (treeOf pairs [] hs 0) x index c w
-      → r ≡ walk d (nodesOf pairs) (treeOf pairs [] hs 0) x index j u → r ≡ walkUnder d (nodesOf pairs) (treeOf pairs [] hs 0) x index k w
-  crossing-both c j C J u r U R = R ∙ (rw (U, C, J))
-
--- what is met and left after the first child
-pub crossing-fits : (d n : ℕ) (t : Tree) (x : Float) (index k : ℕ) (w u : Walk) → w .met + w .left < 2 ^ 64
-    → u ≡ walk d n t x index k w → u .met + u .left < 2 ^ 64
-crossing-fits d n t x index k w u h e = let z = walk-sum d n t x index k w in rw e (omega arith)
-
-pub ruleset crossingLaws = (crossing-flat, crossing-found, crossing-spent, crossing-met, crossing-tip, crossing-inner, crossing-both, crossing-fits)
+pub ruleset crossingLaws = (ready-meet, ready-first, ready-second, crossing-spent, crossing-flat, crossing-met, crossing-tip, crossing-both)
 
 -- ---- all of them, or one
 
-module _ (pairs : List ℕ) (hs : List Float) (x : Float) (k : ℕ) (w : Walk) where
-  pub count-is : w ≡ walk (nodesOf pairs) (nodesOf pairs) (treeOf pairs [] hs 0) x 65535 k (outset (nodesOf pairs)) → w .met ≡ counted (treeOf pairs [] hs 0) x k
+-- a walk sets out: the number is 65535 times 2^32, and n
+module _ (n : ℕ) (N : n ≤ 65535) where
+  sets-out : unpacked (281470681743360 + n) ≡ outset n
+  sets-out =
+      let a : (281470681743360 + n) / 4294967296 ≡ 65535 = omega arith in
+      let b : (281470681743360 + n) / 65536 % 65536 ≡ 0 = omega arith in
+      let c : (281470681743360 + n) % 65536 ≡ n = omega arith in
+      λ i. record { found = a i; met = b i; left = c i }
+
+  pub ready-outset : (k : ℕ) → k < n → Ready 65535 k (281470681743360 + n)
+  ready-outset k K = record { node = omega arith; small = record { found = omega arith; sum = omega arith } }
+
+module _ (pairs : List ℕ) (hs : List Float) (x : Float) (k w : ℕ) (N : nodesOf pairs ≤ 65535) where
+  pub count-is : Holds (walk (nodesOf pairs) (nodesOf pairs) (treeOf pairs [] hs 0) x 65535 k (unpacked (281470681743360 + nodesOf pairs))) w
+      → w / 65536 % 65536 ≡ counted (treeOf pairs [] hs 0) x k
   unfolding counted
-  count-is e = rw e
+  count-is h = ap (λ (u : Walk). u .met) (h .same) ∙ rw (sets-out (nodesOf pairs) N)
 
-  pub branch-is : (index : ℕ) → w ≡ walk (nodesOf pairs) (nodesOf pairs) (treeOf pairs [] hs 0) x index k (outset (nodesOf pairs))
-      → w .found ≡ picked (treeOf pairs [] hs 0) x k index
+  pub branch-is : (index : ℕ) → Holds (walk (nodesOf pairs) (nodesOf pairs) (treeOf pairs [] hs 0) x index k (unpacked (281470681743360 + nodesOf pairs))) w
+      → w / 4294967296 ≡ picked (treeOf pairs [] hs 0) x k index
   unfolding picked
-  branch-is index e = rw e
+  branch-is index h = ap (λ (u : Walk). u .found) (h .same) ∙ rw (sets-out (nodesOf pairs) N)
 
-pub ruleset countLaws = (count-is, branch-is)
+pub ruleset countLaws = (ready-outset, count-is, branch-is)

@@ -1,13 +1,12 @@
--- The walk over branches. In order: what it does at one node (`walk-found` to `walk-tip`), and that what it has met and what it has left do
--- not grow together (`walk-sum`); that on a valid tree it meets the branches that rules/Rules lists, each at its number (`counted-is`,
--- `picked-is`, `picked-branch`); and that the code needs only the fields of a tree that it is
+-- The walk over branches. In order: what it does at one node (`walk-done` to `walk-tip`); that on a valid tree it meets the branches that rules/Rules
+-- lists, each at its number (`counted-is`, `picked-is`, `picked-branch`); and that the code needs only the fields of a tree that it is
 -- lent (`counted-bare`, `picked-bare`, `climb-bare`). Assumes nothing.
 use mathlib.Core.Path.{_≡_, refl, sym, ap, _∙_}
-use mathlib.Core.Bool.{Bool, true, false, or-true}
+use mathlib.Core.Bool.{Bool, true, false}
 use mathlib.Core.List.{List, [], _∷_, _++_}
 use Prim.Native.Nat.{ℕ, zero, suc, _+_, _-_, _≤_, _<_}
 use native.Mathlib.Omega.{arith}
-use native.Mathlib.Decide.{ℕ-discrete, decLt, decLe}
+use native.Mathlib.Decide.{ℕ-discrete, decLe}
 use borrow.Author.Tests.{eq-eqb, ne-eqb, lt-ltb, le-ltb}
 use lib.Dec.{T}
 use lib.ListN.{length, getD, length-append, List·getD-append}
@@ -22,8 +21,7 @@ use Rattle.accepted.specs.WayLaws.{valid-linked, first-way, second-way, way, wa
 use Rattle.accepted.specs.SubtreeLaws.{subtree-some, subtree-inner, subtree-sound, subtree-distinct}
 use Rattle.rules.specs.Rules.{climb, crossing, branches}
 use Rattle.reversal.specs.BranchLaws.{Branch, onSide, branches-sound, branches-inner}
-use Rattle.branches.specs.declared.Walk.{Walk}
-use Rattle.branches.specs.Walk.{walkOf, outset, meet, walk, counted, picked}
+use Rattle.branches.specs.Walk.{Walk, walkOf, outset, meet, walk, counted, picked}
 
 -- ---- one node
 
@@ -31,97 +29,62 @@ use Rattle.branches.specs.Walk.{walkOf, outset, meet, walk, counted, pic
 abbrev pub look : Walk → Walk
 look w = walkOf (w .found) (w .met) (w .left - 1)
 
-module _ (n : ℕ) (t : Tree) (x : Float) (index k d : ℕ) (w : Walk) where
-  -- a walk that has found its branch stays as it is
-  pub walk-found : w .found < noNode → walk (suc d) n t x index k w ≡ w
-  unfolding walk
-  walk-found h = rw (lt-ltb (w .found) noNode h)
+-- a walk that may look at no more nodes stays as it is, however deep it goes
+pub walk-done : (d n : ℕ) (t : Tree) (x : Float) (index k : ℕ) (w : Walk) → w .left ≡ 0 → walk d n t x index k w ≡ w
+unfolding walk
+walk-done zero n t x index k w h = refl
+walk-done (suc d) n t x index k w h = rw (eq-eqb (w .left) 0 h)
 
-  -- so does one that may look at no more nodes
-  pub walk-spent : w .left ≡ 0 → walk (suc d) n t x index k w ≡ w
+module _ (n : ℕ) (t : Tree) (x : Float) (index k d : ℕ) (w : Walk) (b : w .left ≡ 0 → ⊥) where
+  -- another meets the branch over a node that is below the height
+  pub walk-met : lt (height t k) x ≡ true → walk (suc d) n t x index k w ≡ meet index k (look w)
   unfolding walk
-  walk-spent h = rw (eq-eqb (w .left) 0 h, or-true)
+  walk-met h = rw (ne-eqb (w .left) 0 b, h)
 
-  module _ (a : noNode ≤ w .found) (b : w .left ≡ 0 → ⊥) where
-    -- another meets the branch over a node that is below the height
-    pub walk-met : lt (height t k) x ≡ true → walk (suc d) n t x index k w ≡ meet index k (look w)
+  module _ (h : lt (height t k) x ≡ false) where
+    -- goes on, under an inner node that is not, to the first child and then to the second
+    pub walk-inner : inner n k ≡ true → walk (suc d) n t x index k w ≡ walk d n t x index (second t k) (walk d n t x index (first t k) (look w))
     unfolding walk
-    walk-met h = rw (le-ltb (w .found) noNode a, ne-eqb (w .left) 0 b, h)
+    walk-inner i = rw (ne-eqb (w .left) 0 b, h, i)
 
-    module _ (h : lt (height t k) x ≡ false) where
-      -- goes on, under an inner node that is not, to the first child and then to the second
-      pub walk-inner : inner n k ≡ true → walk (suc d) n t x index k w ≡ walk d n t x index (second t k) (walk d n t x index (first t k) (look w))
-      unfolding walk
-      walk-inner i = rw (le-ltb (w .found) noNode a, ne-eqb (w .left) 0 b, h, i)
-
-      -- and meets nothing at a tip that is not
-      pub walk-tip : inner n k ≡ false → walk (suc d) n t x index k w ≡ look w
-      unfolding walk
-      walk-tip i = rw (le-ltb (w .found) noNode a, ne-eqb (w .left) 0 b, h, i)
-
--- what is met and what is left
-abbrev pub sum : Walk → ℕ
-sum w = w .met + w .left
-
--- meeting a branch counts one at most
-meet-sum : (index k : ℕ) (w : Walk) → sum (meet index k w) ≤ suc (sum w)
-meet-sum index k w = go (ℕ-discrete (w .met) index)
-  where
-    go : Dec (w .met ≡ index) → sum (meet index k w) ≤ suc (sum w)
-    go (yes e) = rw (eq-eqb (w .met) index e) (omega arith)
-    go (no e) = rw (ne-eqb (w .met) index e) (omega arith)
-
--- the two together do not grow
-pub walk-sum : (d n : ℕ) (t : Tree) (x : Float) (index k : ℕ) (w : Walk) → sum (walk d n t x index k w) ≤ sum w
-walk-sum zero n t x index k w = unfold walk in (omega arith)
-walk-sum (suc d) n t x index k w = go (decLt (w .found) noNode) (ℕ-discrete (w .left) 0) (lt (height t k) x) refl (inner n k) refl (walk-sum d n t x index)
-  where
-    go : Dec (w .found < noNode) → Dec (w .left ≡ 0) → (h : Bool) → lt (height t k) x ≡ h → (i : Bool) → inner n k ≡ i
-        → ((j : ℕ) (u : Walk) → sum (walk d n t x index j u) ≤ sum u) → sum (walk (suc d) n t x index k w) ≤ sum w
-    go (yes f) l h p i q rest = rw (walk-found n t x index k d w f) (omega arith)
-    go (no f) (yes l) h p i q rest = rw (walk-spent n t x index k d w l) (omega arith)
-    go (no f) (no l) true p i q rest =
-        let z = meet-sum index k (look w) in
-        rw (walk-met n t x index k d w (omega arith) l p) (omega arith)
-    go (no f) (no l) false p true q rest =
-        let a = rest (first t k) (look w) in
-        let b = rest (second t k) (walk d n t x index (first t k) (look w)) in
-        rw (walk-inner n t x index k d w (omega arith) l p q) (omega arith)
-    go (no f) (no l) false p false q rest = rw (walk-tip n t x index k d w (omega arith) l p q) (omega arith)
+    -- and meets nothing at a tip that is not
+    pub walk-tip : inner n k ≡ false → walk (suc d) n t x index k w ≡ look w
+    unfolding walk
+    walk-tip i = rw (ne-eqb (w .left) 0 b, h, i)
 
 -- ---- on a valid tree
 
--- a walk that has found its branch stays as it is, however deep it goes
-walk-done : (d n : ℕ) (t : Tree) (x : Float) (index k : ℕ) (w : Walk) → w .found < noNode → walk d n t x index k w ≡ w
-walk-done zero n t x index k w h = unfold walk in refl
-walk-done (suc d) n t x index k w h = walk-found n t x index k d w h
+-- what is met and what is left
+abbrev sum : Walk → ℕ
+sum w = w .met + w .left
 
--- how a walk w goes on over a list to u: past it, or to the one with its number, having looked at so many nodes at most
+-- how a walk w goes on over a list to u: past it, having looked at so many nodes at most, or to the one with its number
 data Met (index : ℕ) (l : List ℕ) (size : ℕ) (w u : Walk) : Type 0 where
-  passes : w .met + length l ≤ index → u .found ≡ noNode → u .met ≡ w .met + length l → w .left ≤ u .left + size → Met index l size w u
-  stops : index < w .met + length l → u .found ≡ getD l (index - w .met) 0 → u .met ≡ index → u .found < noNode → Met index l size w u
+  passes : w .met + length l ≤ index → u .met ≡ w .met + length l → w .left ≤ u .left + size → sum u ≤ sum w → Met index l size w u
+  stops : index < w .met + length l → index < sum w → u .found ≡ getD l (index - w .met) 0 → u .left ≡ 0 → Met index l size w u
 
 -- a branch alone
-met-one : (index k size : ℕ) (w : Walk) → w .found ≡ noNode → w .met ≤ index → k < noNode → 1 ≤ size → Met index (k ∷ []) size w (meet index k (look w))
-met-one index k size w f m K s = go (ℕ-discrete (w .met) index)
+met-one : (index k size : ℕ) (w : Walk) → w .met ≤ index → 1 ≤ size → 1 ≤ w .left → Met index (k ∷ []) size w (meet index k (look w))
+met-one index k size w m s a = go (ℕ-discrete (w .met) index)
   where
     go : Dec (w .met ≡ index) → Met index (k ∷ []) size w (meet index k (look w))
-    go (yes e) = let z : index - w .met ≡ 0 = omega arith in rw (eq-eqb (w .met) index e) (stops (omega arith) (rw z) e K)
-    go (no e) = rw (ne-eqb (w .met) index e) (passes (omega arith) f (omega arith) (omega arith))
+    go (yes e) = let z : index - w .met ≡ 0 = omega arith in rw (eq-eqb (w .met) index e) (stops (omega arith) (omega arith) (rw z) refl)
+    go (no e) = rw (ne-eqb (w .met) index e) (passes (omega arith) (omega arith) (omega arith) (omega arith))
 
 -- two lists, the second if the walk goes past the first
 met-both : (index : ℕ) (l m : List ℕ) (a b : ℕ) (w u r : Walk) → w .met ≤ index → Met index l a (look w) u
-    → (u .found < noNode → r ≡ u) → (u .found ≡ noNode → u .met ≤ index → w .left ≤ suc (u .left + a) → Met index m b u r)
+    → (u .left ≡ 0 → r ≡ u) → (u .met ≤ index → w .left ≤ suc (u .left + a) → Met index m b u r)
     → Met index (l ++ m) (suc (a + b)) w r
-met-both index l m a b w u r h (stops i f e n) done on =
-    rw (done n) (stops (omega (arith, length-append l m)) (f ∙ sym (List·getD-append l m 0 (index - w .met) (omega arith))) e n)
-met-both index l m a b w u r h (passes i f e s) done on = go (on f (omega arith) (omega arith))
+met-both index l m a b w u r h (stops i c f e) done on =
+    rw (done e) (stops (omega (arith, length-append l m)) (omega arith) (f ∙ sym (List·getD-append l m 0 (index - w .met) (omega arith))) e)
+met-both index l m a b w u r h (passes i e s c) done on = go (on (omega arith) (omega arith))
   where
     go : Met index m b u r → Met index (l ++ m) (suc (a + b)) w r
-    go (passes i′ f′ e′ s′) = passes (omega (arith, length-append l m)) f′ (omega (arith, length-append l m)) (omega arith)
-    go (stops i′ f′ e′ n′) =
+    go (passes i′ e′ s′ c′) = passes (omega (arith, length-append l m)) (omega (arith, length-append l m)) (omega arith) (omega arith)
+    go (stops i′ c′ f′ e′) =
         let z : index - u .met ≡ (index - w .met) - length l = omega arith in
-        stops (omega (arith, length-append l m)) (f′ ∙ ap (λ (j : ℕ). getD m j 0) z ∙ sym (getD-right l m (index - w .met) (omega arith))) e′ n′
+        stops (omega (arith, length-append l m)) (omega arith)
+        (f′ ∙ ap (λ (j : ℕ). getD m j 0) z ∙ sym (getD-right l m (index - w .met) (omega arith))) e′
 
 -- no branch is listed under a tip
 branches-tip : (f n : ℕ) (t : Tree) (x : Float) (k : ℕ) → k + k ≤ n → crossing f n t x k ≡ []
@@ -138,10 +101,10 @@ module _ {n : ℕ} {t : Tree} (v : Valid n t) (x : Float) (X : T (finite x)) (in
   size k = length (subtree n n (t .pairs) k)
 
   -- where the way to the root and the depth are n together, a walk that may look at a subtree's nodes meets what is listed on its side
-  meets : (f k d : ℕ) → k < n → Way t d k → n ≤ d + f → (w : Walk) → w .found ≡ noNode → w .met ≤ index → size k ≤ w .left
+  meets : (f k d : ℕ) → k < n → Way t d k → n ≤ d + f → (w : Walk) → w .met ≤ index → size k ≤ w .left
       → Met index (onSide n t x k) (size k) w (walk f n t x index k w)
-  meets zero k d K y h w F M S = let z : d < n = way-short n t linked y K in absurd (omega arith)
-  meets (suc f) k d K y h w F M S = go (lt (height t k) x) refl (λ c C z. meets f c (suc d) C z (omega arith))
+  meets zero k d K y h w M S = let z : d < n = way-short n t linked y K in absurd (omega arith)
+  meets (suc f) k d K y h w M S = go (lt (height t k) x) refl (λ c C z. meets f c (suc d) C z (omega arith))
     where
       some : 1 ≤ size k
       some = unfold size in (subtree-some n (t .pairs) k K)
@@ -153,19 +116,19 @@ module _ {n : ℕ} {t : Tree} (v : Valid n t) (x : Float) (X : T (finite x)) (in
       Goal = Met index (onSide n t x k) (size k) w (walk (suc f) n t x index k w)
 
       Rest : Type 0
-      Rest = (c : ℕ) → c < n → Way t (suc d) c → (w : Walk) → w .found ≡ noNode → w .met ≤ index → size c ≤ w .left
+      Rest = (c : ℕ) → c < n → Way t (suc d) c → (w : Walk) → w .met ≤ index → size c ≤ w .left
           → Met index (onSide n t x c) (size c) w (walk f n t x index c w)
 
       under : lt (height t k) x ≡ false → Dec (k + k ≤ n) → Rest → Goal
       under e (yes i) rest =
-          rw (walk-tip n t x index k f w (omega arith) left e (le-ltb n (k + k) i), e, branches-tip n n t x k i)
-          (passes (omega arith) F (omega arith) (omega (arith, some)))
+          rw (walk-tip n t x index k f w left e (le-ltb n (k + k) i), e, branches-tip n n t x k i)
+          (passes (omega arith) (omega arith) (omega (arith, some)) (omega arith))
       under e (no i) rest =
-          rw (walk-inner n t x index k f w (omega arith) left e (lt-ltb n (k + k) j), e, branches-inner v x K j X (rw e tt), both)
+          rw (walk-inner n t x index k f w left e (lt-ltb n (k + k) j), e, branches-inner v x K j X (rw e tt), both)
           (met-both index (onSide n t x a) (onSide n t x b) (size a) (size b) w u (walk f n t x index b u) M
-          (rest a (q .first-node) (first-way n t linked k K j y) (look w) F M (omega (arith, both)))
+          (rest a (q .first-node) (first-way n t linked k K j y) (look w) M (omega (arith, both)))
           (walk-done f n t x index b u)
-          (λ g m s. rest b (q .second-node) (second-way n t linked k K j y) u g m (omega (arith, both))))
+          (λ m s. rest b (q .second-node) (second-way n t linked k K j y) u m (omega (arith, both))))
         where
           j : n < k + k
           j = omega arith
@@ -186,7 +149,7 @@ module _ {n : ℕ} {t : Tree} (v : Valid n t) (x : Float) (X : T (finite x)) (in
           both = unfold size in (rw (subtree-inner n t v k K j) (simp (length-append, length-append) (omega arith)))
 
       go : (b : Bool) → lt (height t k) x ≡ b → Rest → Goal
-      go true e rest = rw (walk-met n t x index k f w (omega arith) left e, e) (met-one index k (size k) w F M (omega (arith, v .sized .few)) some)
+      go true e rest = rw (walk-met n t x index k f w left e, e) (met-one index k (size k) w M some (omega (arith, some)))
       go false e rest = under e (decLe (k + k) n) rest
 
   -- a subtree has no more nodes than the tree
@@ -198,7 +161,7 @@ module _ {n : ℕ} {t : Tree} (v : Valid n t) (x : Float) (X : T (finite x)) (in
   meets-all k K e =
       let y = way (v .joined k K) in
       let s : onSide n t x k ≡ branches n t x k = rw e in
-      rw s at (meets n k (y .0) K (y .1) (omega arith) (outset n) refl (omega arith) (size-few k K))
+      rw s at (meets n k (y .0) K (y .1) (omega arith) (outset n) (omega arith) (size-few k K))
 
 module _ {n : ℕ} {t : Tree} (v : Valid n t) (x : Float) {k : ℕ} (K : k < n) (X : T (finite x)) (e : lt (height t k) x ≡ false) where
   -- the walk that looks for none of them counts them
@@ -207,8 +170,8 @@ module _ {n : ℕ} {t : Tree} (v : Valid n t) (x : Float) {k : ℕ} (K : k < n) 
     where
       go : {s : ℕ} → Met noNode (branches n t x k) s (outset n) (walk n n t x noNode k (outset n))
           → walk n n t x noNode k (outset n) .met ≡ length (branches n t x k)
-      go (passes i f m s) = omega arith
-      go (stops i f m b) = let z = walk-sum n n t x noNode k (outset n) in absurd (omega (arith, v .sized .few))
+      go (passes i m s c) = omega arith
+      go (stops i c f m) = absurd (omega (arith, v .sized .few))
 
   -- one that looks for a number among theirs finds the branch that is listed there
   walk-finds : (index : ℕ) → index < length (branches n t x k) → walk n n t x index k (outset n) .found ≡ getD (branches n t x k) index 0
@@ -216,8 +179,8 @@ module _ {n : ℕ} {t : Tree} (v : Valid n t) (x : Float) {k : ℕ} (K : k < n) 
     where
       go : {s : ℕ} → Met index (branches n t x k) s (outset n) (walk n n t x index k (outset n))
           → walk n n t x index k (outset n) .found ≡ getD (branches n t x k) index 0
-      go (passes i f m s) = absurd (omega arith)
-      go (stops i f m b) = let z : index - 0 ≡ index = omega arith in f ∙ ap (λ (j : ℕ). getD (branches n t x k) j 0) z
+      go (passes i m s c) = absurd (omega arith)
+      go (stops i c f m) = let z : index - 0 ≡ index = omega arith in f ∙ ap (λ (j : ℕ). getD (branches n t x k) j 0) z
 
 module _ {t : Tree} (v : Valid (nodesOf (t .pairs)) t) (x : Float) {k : ℕ} (K : k < nodesOf (t .pairs)) (X : T (finite x))
     (e : lt (height t k) x ≡ false) where

@@ -3,7 +3,8 @@
 use mathlib.Core.Path.{_≡_, refl, sym, ap, _∙_, subst}
 use mathlib.Core.Bool.{Bool, true, false}
 use mathlib.Core.List.{List, []}
-use Prim.Native.Nat.{ℕ, _<_}
+use Prim.Native.Nat.{ℕ, _≤_, _<_}
+use native.Mathlib.Omega.{arith}
 use lib.Dec.{T}
 use lib.ListN.{length, getD, set}
 use lib.Ieee.{Float, binary64, add, lt, nan}
@@ -37,6 +38,10 @@ use Rattle.slide.specs.UpLaws.{up-grafts, up-valid, up-not-below}
 use Rattle.slide.specs.DownLaws.{down-apart}
 use Rattle.slide.proofs.RunLaws.{runs-up, runs-above, runs-level, runs-none, runs-spent, runs-under, kept, lifted, lowered}
 
+-- a valid tree has nodes of 16 bits
+few : {n : ℕ} {t : Tree} → Valid n t → n ≤ 65535
+few v = omega (arith, v .sized .few)
+
 -- branches that are counted in a valid tree
 counted-at : {n : ℕ} {t : Tree} → Valid n t → (x : Float) {k : ℕ} → k < n → T (finite x) → lt (height t k) x ≡ false
     → counted (treeOf (t .pairs) [] (t .heights) 0) x k ≡ length (branches n t x k)
@@ -67,33 +72,22 @@ module _ (pairs parents : List ℕ) (heights : List Float) (root i : ℕ) where
     kin : Sibling n t i (sibling t i)
     kin = sibling-is (valid-linked (g .valid)) i (g .node) (g .under)
 
-    -- old is p's height
-    module _ (p : ℕ) (ep : p ≡ getD parents i 0) where
-      is-parent : p ≡ parent t i
-      unfolding parent
-      is-parent = ep
-
-      is-height : (old : Float) → old ≡ getD heights p nan → old ≡ height t (parent t i)
-      unfolding height parent
-      is-height old e = rw (e, ep)
-
-      -- p takes the height x, and nothing else changes
-      only-height : (x : Float) (h : List Float) → h ≡ set heights p x → (s : Supply)
-          → record { turned = Turns.Moved root Even; supply = s; pairs = pairs; parents = parents; heights = h }
-          ≡ afterOn (Turns.Moved root Even) s (setHeight t (parent t i) x)
-      unfolding setHeight
-      only-height x h e s = rw (e, is-parent)
+  -- p takes the height x, and nothing else changes
+  only-height : (p : ℕ) → p ≡ parent t i → (x : Float) (h : List Float) → h ≡ set heights p x → (s : Supply)
+      → record { turned = Turns.Moved root Even; supply = s; pairs = pairs; parents = parents; heights = h }
+      ≡ afterOn (Turns.Moved root Even) s (setHeight t (parent t i) x)
+  unfolding setHeight
+  only-height p ep x h e s = rw (e, ep)
 
   -- ---- upwards
 
-  module _ (x : Float) (g : Goes true pairs parents heights root i x) (p : ℕ) (ep : p ≡ getD parents i 0) where
+  module _ (x : Float) (g : Goes true pairs parents heights root i x) (p : ℕ) (ep : p ≡ parent t i) where
     abbrev v : Valid n t
     v = g .slides .valid
 
     -- `to` is where the climb ends
     module _ (to : ℕ) (et : to ≡ climb (nodesOf pairs) (datesIn parents heights root) x p) where
       climbed : Climb t x (parent t i) to
-      unfolding parent
       climbed = rw (et, ep, climb-bare t x n (parent t i)) (climb-is v x (parent-node (g .slides)))
 
       goes-up : Ways.Slides n t i x 0 to
@@ -102,12 +96,12 @@ module _ (pairs parents : List ℕ) (heights : List Float) (root i : ℕ) where
       pub up-stays : to ≡ p → (h : List Float) → h ≡ set heights p x → (s : Supply)
           → record { turned = Turns.Moved root Even; supply = s; pairs = pairs; parents = parents; heights = h } ≡ slid x s
       up-stays e h eh s =
-          only-height (g .slides) p ep x h eh s ∙ sym (kept v (parent-node (g .slides)) goes-up s s (e ∙ is-parent (g .slides) p ep))
+          only-height p ep x h eh s ∙ sym (kept v (parent-node (g .slides)) goes-up s s (e ∙ ep))
           ∙ sym (ap (turnOf t s) (runs-up t i x s (g .way)))
 
       module _ (d : to ≡ p → ⊥) where
         apart : to ≡ parent t i → ⊥
-        apart e = d (e ∙ sym (is-parent (g .slides) p ep))
+        apart e = d (e ∙ sym ep)
 
         number : T (finite x)
         number = passed (finite x) (g .number)
@@ -122,15 +116,18 @@ module _ (pairs parents : List ℕ) (heights : List Float) (root i : ℕ) where
         abbrev made : Tree
         made = regraft n t i to x
 
+        made-valid : Valid n made
+        made-valid = up-valid v (g .slides .node) (g .slides .under) number (passed _ (g .way)) climbed apart
+
         listed : counted (treeOf (made .pairs) [] (made .heights) 0) (height t (parent t i)) to ≡ length (branches n made (height t (parent t i)) (sibling made i))
         listed = rw (graft-sibling v grafts x)
-            (counted-at (up-valid v (g .slides .node) (g .slides .under) number (passed _ (g .way)) climbed apart) (height t (parent t i)) (grafts .node-j)
+            (counted-at made-valid (height t (parent t i)) (grafts .node-j)
             (v .dated .number (parent t i) (parent-node (g .slides)))
             (up-not-below v (g .slides .node) (g .slides .under) number (passed _ (g .way)) climbed apart))
 
         pub up-goes : (pairs′ parents′ : List ℕ) (heights′ : List Float) (r : ℕ)
-            → (Regrafts pairs parents heights root i to → treeOf pairs′ parents′ heights′ r ≡ regraft n t i to x) → (old : Float) → old ≡ getD heights p nan
-            → (count : ℕ) → count ≡ counted (treeOf pairs′ [] heights′ 0) old to → (s : Supply)
+            → (Regrafts pairs parents heights root i to → treeOf pairs′ parents′ heights′ r ≡ regraft n t i to x) → (old : Float) → old ≡ height t p
+            → (count : ℕ) → (nodesOf pairs′ ≤ 65535 → to < nodesOf pairs′ → count ≡ counted (treeOf pairs′ [] heights′ 0) old to) → (s : Supply)
             → record { turned = Turns.Moved r (Counts 1 count); supply = s; pairs = pairs′; parents = parents′; heights = heights′ } ≡ slid x s
         up-goes pairs′ parents′ heights′ r e old eo count ec s =
             (λ j. afterOn (Turns.Moved (left j .root) (Counts 1 (same j))) s (left j)) ∙ sym (lifted v (parent-node (g .slides)) goes-up s s apart (g .way))
@@ -139,37 +136,37 @@ module _ (pairs parents : List ℕ) (heights : List Float) (root i : ℕ) where
             left : treeOf pairs′ parents′ heights′ r ≡ made
             left = e regrafts
 
+            nodes : nodesOf pairs′ ≡ n
+            nodes = ap (λ (u : Tree). nodesOf (u .pairs)) left ∙ valid-nodes made-valid
+
             same : count ≡ length (branches n made (height t (parent t i)) (sibling made i))
-            same = ec ∙ ap (λ (u : Tree). counted (treeOf (u .pairs) [] (u .heights) 0) old to) left
-                ∙ ap (λ (y : Float). counted (treeOf (made .pairs) [] (made .heights) 0) y to) (is-height (g .slides) p ep old eo) ∙ listed
+            same = ec (rw nodes (few v)) (rw nodes (grafts .node-j)) ∙ ap (λ (u : Tree). counted (treeOf (u .pairs) [] (u .heights) 0) old to) left
+                ∙ ap (λ (y : Float). counted (treeOf (made .pairs) [] (made .heights) 0) y to) (eo ∙ ap (height t) ep) ∙ listed
 
   -- ---- downwards past the sibling
 
   -- k is the sibling, and count how many branches are under it
-  module _ (x : Float) (g : Lowers pairs parents heights root i x) (p : ℕ) (ep : p ≡ getD parents i 0) (k : ℕ) (ek : k ≡ otherIn pairs p i)
-      (count : ℕ) (ec : count ≡ counted (treeOf pairs [] heights 0) x k) (s : Supply) where
+  module _ (x : Float) (k : ℕ) (g : Lowers pairs parents heights root i k x) (count : ℕ)
+      (ec : nodesOf pairs ≤ 65535 → k < nodesOf pairs → count ≡ counted (treeOf pairs [] heights 0) x k) (s : Supply) where
     abbrev on : Slidable pairs parents heights root i
     on = g .goes .slides
 
     abbrev list : List ℕ
     list = branches n t x (sibling t i)
 
-    is-sibling : k ≡ sibling t i
-    unfolding sibling parent
-    is-sibling = rw (ek, ep)
-
     finite-x : T (finite x)
     finite-x = passed (finite x) (g .goes .number)
 
     sibling-node : k < n
-    sibling-node = rw is-sibling (kin on .node)
+    sibling-node = rw (g .beside) (kin on .node)
 
     not-below : lt (height t k) x ≡ false
-    not-below = rw is-sibling (le-nlt (height t (sibling t i)) x (on .valid .dated .number (sibling t i) (kin on .node)) finite-x
+    not-below = rw (g .beside) (le-nlt (height t (sibling t i)) x (on .valid .dated .number (sibling t i) (kin on .node)) finite-x
         (lt→le x (height t (sibling t i)) (passed _ (g .past))))
 
     is-count : count ≡ length list
-    is-count = ec ∙ counted-bare t x k ∙ counted-is (on .valid) x sibling-node finite-x not-below ∙ ap (λ (m : ℕ). length (branches n t x m)) is-sibling
+    is-count = ec (few (on .valid)) sibling-node ∙ counted-bare t x k ∙ counted-is (on .valid) x sibling-node finite-x not-below
+        ∙ ap (λ (m : ℕ). length (branches n t x m)) (g .beside)
 
     pub under-none : count ≡ 0 → record { turned = Turns.Declined; supply = s; pairs = pairs; parents = parents; heights = heights } ≡ slid x s
     unfolding turnOf
@@ -188,22 +185,23 @@ module _ (pairs parents : List ℕ) (heights : List Float) (root i : ℕ) where
       under-spent h = rw (runs-spent t i x s (g .goes .way) (g .over) (g .past) some-listed (number-spent s d _ drawn h))
 
       -- j is the branch that was picked
-      module _ (h : d .ok ≡ true) (j : ℕ) (ej : j ≡ picked (treeOf pairs [] heights 0) x k (d .value)) where
+      module _ (h : d .ok ≡ true) (j : ℕ)
+          (ej : nodesOf pairs ≤ 65535 → k < nodesOf pairs → j ≡ picked (treeOf pairs [] heights 0) x k (d .value)) where
         index : d .value < length (branches n t x k)
-        index = rw (is-sibling, ← is-count) (below-yields count s (d .value) (d .supply) (number-got s d _ ed h))
+        index = rw (g .beside, ← is-count) (below-yields count s (d .value) (d .supply) (number-got s d _ ed h))
 
         is-picked : j ≡ picked t x k (d .value)
-        is-picked = ej ∙ picked-bare t x k (d .value)
+        is-picked = ej (few (on .valid)) sibling-node ∙ picked-bare t x k (d .value)
 
         branch : Branch n t x (sibling t i) j
-        branch = rw (← is-sibling, is-picked) (picked-branch (on .valid) x sibling-node finite-x not-below (d .value) index)
+        branch = rw (← g .beside, is-picked) (picked-branch (on .valid) x sibling-node finite-x not-below (d .value) index)
 
         onto-branch : Regrafts pairs parents heights root i j
         onto-branch = record { valid = on .valid; node = on .node; under = on .under; to = branch .node }
 
         goes-down : Ways.Slides n t i x (d .value) j
-        goes-down = Ways.down {j = j} (g .goes .way) (g .over) (g .past) (rw is-sibling at index)
-            (rw (← is-sibling) (sym (is-picked ∙ picked-is (on .valid) x sibling-node finite-x not-below (d .value) index)))
+        goes-down = Ways.down {j = j} (g .goes .way) (g .over) (g .past) (rw (g .beside) at index)
+            (rw (← g .beside) (sym (is-picked ∙ picked-is (on .valid) x sibling-node finite-x not-below (d .value) index)))
 
         pub under-goes : (pairs′ parents′ : List ℕ) (heights′ : List Float) (r : ℕ)
             → (Regrafts pairs parents heights root i j → treeOf pairs′ parents′ heights′ r ≡ regraft n t i j x)
@@ -225,26 +223,30 @@ module _ (pairs parents : List ℕ) (heights : List Float) (root i : ℕ) where
     unfolding turnOf
     down-above a s = rw (runs-above t i x s (g .way) (rw is-own at a))
 
-    module _ (a : lt x own ≡ false) (p : ℕ) (ep : p ≡ getD parents i 0) where
+    module _ (a : lt x own ≡ false) (p : ℕ) (ep : p ≡ parent t i) where
       not-above : lt x (height t i) ≡ false
       not-above = rw is-own at a
 
       -- k is the sibling, and other its height
       module _ (k : ℕ) (ek : k ≡ otherIn pairs p i) (other : Float) (et : other ≡ getD heights k nan) where
+        is-sibling : k ≡ sibling t i
+        unfolding sibling
+        is-sibling = rw (ek, ep)
+
         is-other : other ≡ height t (sibling t i)
-        unfolding height sibling parent
-        is-other = rw (et, ek, ep)
+        unfolding height
+        is-other = rw (et, is-sibling)
 
         -- a is what is left of the slide past the sibling
-        pub down-past : lt x other ≡ true → (s : Supply) (a : After) → (Lowers pairs parents heights root i x → a ≡ slid x s) → a ≡ slid x s
-        down-past b s a e = e (record { goes = g; over = not-above; past = rw is-other at b })
+        pub down-past : lt x other ≡ true → (s : Supply) (a : After) → (Lowers pairs parents heights root i k x → a ≡ slid x s) → a ≡ slid x s
+        down-past b s a e = e (record { goes = g; over = not-above; beside = is-sibling; past = rw is-other at b })
 
         pub down-stays : lt x other ≡ false → (h : List Float) → h ≡ set heights p x → (s : Supply)
             → record { turned = Turns.Moved root Even; supply = s; pairs = pairs; parents = parents; heights = h } ≡ slid x s
         down-stays b h eh s =
             let c : lt x (height t (sibling t i)) ≡ false = rw is-other at b in
             let w : Ways.Slides n t i x 0 (parent t i) = Ways.level (g .way) not-above c in
-            only-height (g .slides) p ep x h eh s ∙ sym (kept (g .slides .valid) (parent-node (g .slides)) w s s refl)
+            only-height p ep x h eh s ∙ sym (kept (g .slides .valid) (parent-node (g .slides)) w s s refl)
             ∙ sym (ap (turnOf t s) (runs-level t i x s (g .way) not-above c))
 
   -- ---- the turn
@@ -252,13 +254,21 @@ module _ (pairs parents : List ℕ) (heights : List Float) (root i : ℕ) where
   -- old is p's height, and b whether the new one is finite
   module _ (step : Float) (g : Slidable pairs parents heights root i) (p : ℕ) (ep : p ≡ getD parents i 0) (old : Float) (eo : old ≡ getD heights p nan)
       (b : Bool) (eb : b ≡ finite (add binary64 old step)) where
+    is-parent : p ≡ parent t i
+    unfolding parent
+    is-parent = ep
+
+    is-height : old ≡ height t p
+    unfolding height
+    is-height = eo
+
     before : old ≡ height t (parent t i)
-    before = is-height g p ep old eo
+    before = is-height ∙ ap (height t) is-parent
 
     pub turn-not-finite : b ≡ false → (s : Supply)
         → record { turned = Turns.NotFinite p; supply = s; pairs = pairs; parents = parents; heights = heights } ≡ turned step s
     unfolding subtreeSlide turnOf run
-    turn-not-finite h s = rw (← before, ← eb, h, ← is-parent g p ep)
+    turn-not-finite h s = rw (← before, ← eb, h, ← is-parent)
 
     -- past the test it is the slide to the new height
     module _ (h : b ≡ true) where
@@ -266,9 +276,17 @@ module _ (pairs parents : List ℕ) (heights : List Float) (root i : ℕ) where
       unfolding subtreeSlide slideAt
       is-slide s = rw (← before, ← eb, h)
 
-      -- a is what it left
-      pub turn-slid : (up : Bool) → lt old (add binary64 old step) ≡ up → (s : Supply) (a : After)
-          → (Goes up pairs parents heights root i (add binary64 old step) → a ≡ slid (add binary64 old step) s) → a ≡ turned step s
-      turn-slid up w s a e = rw (is-slide s) (e (record { slides = g; number = sym eb ∙ h; way = rw (← before) w }))
+      goes : (up : Bool) → lt old (add binary64 old step) ≡ up → Goes up pairs parents heights root i (add binary64 old step)
+      goes up w = record { slides = g; number = sym eb ∙ h; way = rw (← before) w }
 
-pub ruleset turnLaws = (turn-not-finite, turn-slid)
+      -- a is what it left
+      pub turn-up : lt old (add binary64 old step) ≡ true → (s : Supply) (a : After)
+          → (Goes true pairs parents heights root i (add binary64 old step) → p ≡ parent t i → old ≡ height t p → a ≡ slid (add binary64 old step) s)
+          → a ≡ turned step s
+      turn-up w s a e = rw (is-slide s) (e (goes true w) is-parent is-height)
+
+      pub turn-down : lt old (add binary64 old step) ≡ false → (s : Supply) (a : After)
+          → (Goes false pairs parents heights root i (add binary64 old step) → p ≡ parent t i → a ≡ slid (add binary64 old step) s) → a ≡ turned step s
+      turn-down w s a e = rw (is-slide s) (e (goes false w) is-parent)
+
+pub ruleset turnLaws = (turn-not-finite, turn-up, turn-down)

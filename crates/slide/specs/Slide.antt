@@ -24,8 +24,9 @@ pub record Goes (up : Bool) (pairs parents : List ℕ) (heights : List Float) (r
   pub number : finite x ≡ true
   pub way : rises (treeOf pairs parents heights root) i x ≡ up
 
--- it is not above the old one, not below i and below the sibling
-pub record Lowers (pairs parents : List ℕ) (heights : List Float) (root i : ℕ) (x : Float) : Type 0 where
+-- it is not above the old one, not below i and below the sibling k
+pub record Lowers (pairs parents : List ℕ) (heights : List Float) (root i k : ℕ) (x : Float) : Type 0 where
   pub goes : Goes false pairs parents heights root i x
   pub over : lt x (height (treeOf pairs parents heights root) i) ≡ false
+  pub beside : k ≡ sibling (treeOf pairs parents heights root) i
   pub past : lt x (height (treeOf pairs parents heights root) (sibling (treeOf pairs parents heights root) i)) ≡ true

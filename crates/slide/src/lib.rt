@@ -5,6 +5,7 @@ ghost use mathlib.Core.Path.{_≡_};
 ghost use mathlib.Core.Bool.{true, false};
 ghost use mathlib.Core.List.{[]};
 ghost use Rattle.random.specs.Draw.{run};
+ghost use Rattle.tree.specs.Tree.{parent, height};
 ghost use Rattle.tree.specs.New.{Accepted};
 ghost use Rattle.tree.specs.Given.{treeOf};
 ghost use Rattle.moves.specs.Programs as Programs;
@@ -164,20 +165,20 @@ fn turn_back(why: Refusal, random: Random) -> Started
     }
 }
 
-// Upwards to the height x: onto the ancestral branch there, or no further than the parent's own.
+// Upwards to the height x: onto the ancestral branch there, or no further than the parent's own. p is the parent, and old its height.
 fn slide_up(
     pairs: &mut [u16],
     parents: &mut [u16],
     heights: &mut [f64],
     root: usize,
     node: usize,
+    p: usize,
+    old: f64,
     x: f64,
     s: Supply,
 ) -> Turn
-    ensures { λ r. ⌜ (Goes true (now (pairs .entry)) (now (parents .entry)) (now (heights .entry)) root node x → after r (now (pairs .exit)) (now (parents .exit)) (now (heights .exit)) ≡ turnOf (treeOf (now (pairs .entry)) (now (parents .entry)) (now (heights .entry)) root) s (run (slideAt node x (treeOf (now (pairs .entry)) (now (parents .entry)) (now (heights .entry)) root)) s)) ⌝ }
+    ensures { λ r. ⌜ (Goes true (now (pairs .entry)) (now (parents .entry)) (now (heights .entry)) root node x → p ≡ parent (treeOf (now (pairs .entry)) (now (parents .entry)) (now (heights .entry)) root) node → old ≡ height (treeOf (now (pairs .entry)) (now (parents .entry)) (now (heights .entry)) root) p → after r (now (pairs .exit)) (now (parents .exit)) (now (heights .exit)) ≡ turnOf (treeOf (now (pairs .entry)) (now (parents .entry)) (now (heights .entry)) root) s (run (slideAt node x (treeOf (now (pairs .entry)) (now (parents .entry)) (now (heights .entry)) root)) s)) ⌝ }
 {
-    let p = reads::parent(parents, node);
-    let old = reads::height(heights, p);
     let to = branches::climb(parents, heights, root, x, p, pairs.len() / 2);
     if to == p {
         edits::set_height(heights, p, x);
@@ -201,13 +202,12 @@ fn slide_under(
     heights: &mut [f64],
     root: usize,
     node: usize,
+    sibling: usize,
     x: f64,
     s: Supply,
 ) -> Turn
-    ensures { λ r. ⌜ (Lowers (now (pairs .entry)) (now (parents .entry)) (now (heights .entry)) root node x → after r (now (pairs .exit)) (now (parents .exit)) (now (heights .exit)) ≡ turnOf (treeOf (now (pairs .entry)) (now (parents .entry)) (now (heights .entry)) root) s (run (slideAt node x (treeOf (now (pairs .entry)) (now (parents .entry)) (now (heights .entry)) root)) s)) ⌝ }
+    ensures { λ r. ⌜ (Lowers (now (pairs .entry)) (now (parents .entry)) (now (heights .entry)) root node sibling x → after r (now (pairs .exit)) (now (parents .exit)) (now (heights .exit)) ≡ turnOf (treeOf (now (pairs .entry)) (now (parents .entry)) (now (heights .entry)) root) s (run (slideAt node x (treeOf (now (pairs .entry)) (now (parents .entry)) (now (heights .entry)) root)) s)) ⌝ }
 {
-    let p = reads::parent(parents, node);
-    let sibling = reads::other(pairs, p, node);
     let count = branches::count(pairs, heights, x, sibling);
     if count == 0 {
         return Turn {
@@ -231,17 +231,18 @@ fn slide_under(
     }
 }
 
-// Downwards, or not at all, to the height x: declined if the node is above it.
+// Downwards, or not at all, to the height x: declined if the node is above it. p is the parent.
 fn slide_down(
     pairs: &mut [u16],
     parents: &mut [u16],
     heights: &mut [f64],
     root: usize,
     node: usize,
+    p: usize,
     x: f64,
     s: Supply,
 ) -> Turn
-    ensures { λ r. ⌜ (Goes false (now (pairs .entry)) (now (parents .entry)) (now (heights .entry)) root node x → after r (now (pairs .exit)) (now (parents .exit)) (now (heights .exit)) ≡ turnOf (treeOf (now (pairs .entry)) (now (parents .entry)) (now (heights .entry)) root) s (run (slideAt node x (treeOf (now (pairs .entry)) (now (parents .entry)) (now (heights .entry)) root)) s)) ⌝ }
+    ensures { λ r. ⌜ (Goes false (now (pairs .entry)) (now (parents .entry)) (now (heights .entry)) root node x → p ≡ parent (treeOf (now (pairs .entry)) (now (parents .entry)) (now (heights .entry)) root) node → after r (now (pairs .exit)) (now (parents .exit)) (now (heights .exit)) ≡ turnOf (treeOf (now (pairs .entry)) (now (parents .entry)) (now (heights .entry)) root) s (run (slideAt node x (treeOf (now (pairs .entry)) (now (parents .entry)) (now (heights .entry)) root)) s)) ⌝ }
 {
     if x < reads::height(heights, node) {
         return Turn {
@@ -249,10 +250,9 @@ fn slide_down(
             supply: s,
         };
     }
-    let p = reads::parent(parents, node);
     let sibling = reads::other(pairs, p, node);
     if x < reads::height(heights, sibling) {
-        return slide_under(pairs, parents, heights, root, node, x, s);
+        return slide_under(pairs, parents, heights, root, node, sibling, x, s);
     }
     edits::set_height(heights, p, x);
     Turn {
@@ -278,9 +278,9 @@ fn subtree_slide_turn(
     let x = old + step;
     if real::is_finite(x) {
         if old < x {
-            return slide_up(pairs, parents, heights, root, node, x, s);
+            return slide_up(pairs, parents, heights, root, node, p, old, x, s);
         }
-        return slide_down(pairs, parents, heights, root, node, x, s);
+        return slide_down(pairs, parents, heights, root, node, p, x, s);
     }
     Turn {
         turned: Turned::NotFinite(p),

@@ -11,10 +11,7 @@ same-length : tie.Need-same-length
 same-length c = search needs
 
 returns : tie.Need-returns
-returns c = λ v. search (down-above, needs)
-
-parent-requires : tie.Need-parent-requires
-parent-requires c κs = search needs
+returns c = λ v upper. search (down-above, needs)
 
 other-requires : tie.Need-other-requires
 other-requires c κs = search needs
@@ -35,7 +32,7 @@ same-length-4 : tie.Need-same-length-4
 same-length-4 c = search needs
 
 returns-2 : tie.Need-returns-2
-returns-2 c = λ v. search (down-past, needs)
+returns-2 c = λ v upper. search (down-past, needs)
 
 set-height-requires : tie.Need-set-height-requires
 set-height-requires c κs = search needs
@@ -46,21 +43,17 @@ same-length-5 c = search needs
 same-length-6 : tie.Need-same-length-6
 same-length-6 c = search needs
 
-same-length-7 : tie.Need-same-length-7
-same-length-7 c = search needs
-
 returns-3 : tie.Need-returns-3
-returns-3 c = λ v.
+returns-3 c = λ v upper.
     let set = c .before .before in
     let short = set .before .before in
     let level = short .before in
     let other = level .before .before in
-    let parent = other .before .before in
-    let low = parent .before .before in
+    let low = other .before .before in
     let height = low .before in
     let start = height .before .before .before .before .before in
-    down-stays _ _ _ _ _ _ v _ (height .height .ensures) (low .if1 .left) _ (parent .parent .ensures) _ (other .other .ensures) _
-    (level .height2 .ensures) (short .if2 .left) _ (set .set-height .ensures) (start .args .s)
+    down-stays _ _ _ _ _ _ v _ (height .height .ensures) (low .if1 .left) _ upper _ (other .other .ensures) _ (level .height2 .ensures) (short .if2 .left) _
+    (set .set-height .ensures) (start .args .s)
 
 pub slide-down-spec : {M : Type 1} → statement M
 slide-down-spec =
@@ -69,7 +62,6 @@ slide-down-spec =
     height-requires
     same-length
     returns
-    parent-requires
     other-requires
     height-requires-2
     slide-under-requires
@@ -80,5 +72,4 @@ slide-down-spec =
     set-height-requires
     same-length-5
     same-length-6
-    same-length-7
     returns-3)

@@ -4,12 +4,6 @@ use Rattle.slide.proofs.SlideLaws.{up-stays, up-goes}
 use Rattle.slide.proofs.slide_up.Statement.{statement}
 use Rattle.slide.proofs.slide_up.Tie as tie
 
-parent-requires : tie.Need-parent-requires
-parent-requires c κs = search needs
-
-height-requires : tie.Need-height-requires
-height-requires c κs = search needs
-
 climb-requires : tie.Need-climb-requires
 climb-requires c κs = search needs
 
@@ -23,13 +17,7 @@ same-length-2 : tie.Need-same-length-2
 same-length-2 c = search needs
 
 returns : tie.Need-returns
-returns c = λ v.
-    let set = c .before .before in
-    let even = set .before .before in
-    let climb = even .before in
-    let parent = climb .before .before .before .before .before in
-    let start = parent .before .before .before .before .before in
-    up-stays _ _ _ _ _ _ v _ (parent .parent .ensures) _ (climb .climb .ensures) (even .if1 .taken) _ (set .set-height .ensures) (start .args .s)
+returns c = λ v upper old. search (up-stays, needs)
 
 regraft-requires : tie.Need-regraft-requires
 regraft-requires c κs = search needs
@@ -47,14 +35,12 @@ same-length-5 : tie.Need-same-length-5
 same-length-5 c = search needs
 
 returns-2 : tie.Need-returns-2
-returns-2 c = λ v. search (up-goes, needs)
+returns-2 c = λ v upper old. search (up-goes, needs)
 
 pub slide-up-spec : {M : Type 1} → statement M
 slide-up-spec =
     tie.close
     (tie.spec
-    parent-requires
-    height-requires
     climb-requires
     set-height-requires
     same-length
