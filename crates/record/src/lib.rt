@@ -14,6 +14,7 @@ use answer::Ratio;
 use answer::Refusal;
 use calls::Answered;
 use random::Random;
+use std::num::wrapping_add_u64;
 use tree::Verdict;
 
 // The fewest words of a record.
@@ -189,14 +190,11 @@ pub fn put_reply(words: &mut [u64], reply: Reply) -> u64
     reply.code
 }
 
-// An exponent in two's complement.
+// An exponent in two's complement: raised by 2^31, so that it is not below 0, and lowered by as much, modulo 2^64.
 fn complement(k: i32) -> u64
     ensures { λ r. ⌜ r ≡ complement k ⌝ }
 {
-    if k < 0 {
-        return u64::MAX - (-1 - k) as u64;
-    }
-    k as u64
+    wrapping_add_u64((k as i64 + 2147483648) as u64, 0xffff_ffff_8000_0000)
 }
 
 // The reply of a move that was made.
