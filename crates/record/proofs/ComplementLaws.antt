@@ -1,74 +1,65 @@
--- The ways through an exponent's two's complement (`complementLaws`). Assumes nothing.
-use mathlib.Core.Path.{_≡_, refl, sym, ap, _∙_}
-use mathlib.Core.Bool.{true, false}
-use Prim.Native.Nat.{ℕ, suc, _-_, _^_, _≤_}
+-- The one way through an exponent's two's complement (`complementLaws`): raised by 2^31 it is a number that is not below 0, and 2^64 less 2^31 added
+-- to that wraps to the complement. Assumes nothing.
+use mathlib.Core.Path.{_≡_, refl, ap, _∙_}
+use Prim.Native.Nat.{ℕ, suc, _+_, _-_, _%_, _^_, _<_}
 use native.Mathlib.Omega.{arith}
 use lib.Dec.{T}
-use lib.IntN.{ℤ, pos, negsuc, _-ℤ_, natAbs}
-use lib.Signed.{mag, ltZ, nonNeg}
+use lib.IntN.{ℤ, pos, negsuc, _+ℤ_, natAbs}
+use lib.Signed.{mag, nonNeg}
 use mir.Syntax.{w32, w64}
 use mir.Val.{Fits, SFits, toZ, ofZ}
-use mir.Facts.{toZ-ofZ}
-use borrow.Author.Tests.{ltb-true, le-ltb}
+use mir.Facts.{toZ-ofZ, sfits-widen}
+use borrow.Author.Tests.{le-ltb}
 use Rattle.record.specs.Record.{complement}
 
--- ---- a number below 0
+-- ---- k raised
 
--- -1 less k
-rest-is : (k : ℤ) → ltZ k (pos 0) ≡ true → negsuc 0 -ℤ k ≡ pos (mag k)
-rest-is (pos n) h = absurd (omega (arith, ltb-true n 0 h))
-rest-is (negsuc n) h = rw (le-ltb (suc n) 1 (omega arith)) (ap pos (omega arith))
+abbrev raised : ℤ → ℕ
+raised (pos n) = n + 2147483648
+raised (negsuc n) = 2147483648 - suc n
 
-complement-is : (k : ℤ) → ltZ k (pos 0) ≡ true → complement k ≡ 2 ^ 64 - suc (mag k)
-complement-is (pos n) h = absurd (omega (arith, ltb-true n 0 h))
-complement-is (negsuc n) h = refl
+raised-is : (k : ℤ) → mag k < 2147483648 → k +ℤ pos 2147483648 ≡ pos (raised k)
+raised-is (pos n) h = refl
+raised-is (negsuc n) h = rw (le-ltb 2147483648 (suc n) (omega arith))
 
--- a number that is not
-natural-is : (k : ℤ) → ltZ k (pos 0) ≡ false → k ≡ pos (mag k)
-natural-is (pos n) h = refl
-natural-is (negsuc n) h = let z : _≡_ {A = ℕ} 0 1 = cc in absurd (omega arith)
+raised-top : (k : ℤ) → mag k < 2147483648 → raised k < 4294967296
+raised-top (pos n) h = omega arith
+raised-top (negsuc n) h = omega arith
 
--- what the code reads back of the bits of k is k
+wrapped-is : (k : ℤ) → mag k < 2147483648 → (raised k + 18446744071562067968) % 2 ^ 64 ≡ complement k
+wrapped-is (pos n) h = omega arith
+wrapped-is (negsuc n) h = omega arith
+
+-- ---- what the code reads back of the bits of k, and of the sum's, is k and the sum
+
 module _ (k : ℤ) (f : SFits w32 k) where
+  abbrev wide : ℤ
+  wide = toZ w64 (ofZ w64 (toZ w32 (ofZ w32 k)))
+
+  abbrev sum : ℤ
+  sum = wide +ℤ toZ w64 2147483648
+
   back : toZ w32 (ofZ w32 k) ≡ k
   back = toZ-ofZ f
 
-  module _ (h : ltZ (toZ w32 (ofZ w32 k)) (pos 0) ≡ true) where
-    negative : ltZ k (pos 0) ≡ true
-    negative = rw back at h
+  pub widens : SFits w64 (toZ w32 (ofZ w32 k))
+  widens = rw back (sfits-widen tt f)
 
-    rest : negsuc 0 -ℤ toZ w32 (ofZ w32 k) ≡ pos (mag k)
-    rest = ap (λ (x : ℤ). negsuc 0 -ℤ x) back ∙ rest-is k negative
+  sum-is : sum ≡ pos (raised k)
+  sum-is = ap (λ (x : ℤ). x +ℤ toZ w64 2147483648) (toZ-ofZ widens ∙ back) ∙ raised-is k (f .sfits)
 
-    rest-back : toZ w32 (ofZ w32 (negsuc 0 -ℤ toZ w32 (ofZ w32 k))) ≡ pos (mag k)
-    rest-back = rw rest (toZ-ofZ {w = w32} {z = pos (mag k)} (record { sfits = f .sfits }))
+  pub sum-fits : SFits w64 (toZ w64 (ofZ w64 (toZ w32 (ofZ w32 k))) +ℤ toZ w64 2147483648)
+  sum-fits = rw sum-is (record { sfits = omega (arith, raised-top k (f .sfits)) })
 
-    pub below-fits : SFits w32 (negsuc 0 -ℤ toZ w32 (ofZ w32 k))
-    below-fits = rw rest (record { sfits = f .sfits })
+  sum-back : toZ w64 (ofZ w64 sum) ≡ pos (raised k)
+  sum-back = toZ-ofZ sum-fits ∙ sum-is
 
-    pub below-cast : T (nonNeg (toZ w32 (ofZ w32 (negsuc 0 -ℤ toZ w32 (ofZ w32 k)))))
-        × Fits w64 (natAbs (toZ w32 (ofZ w32 (negsuc 0 -ℤ toZ w32 (ofZ w32 k)))))
-    below-cast = rw rest-back (tt, record { fits = omega (arith, f .sfits) })
+  pub sum-cast : T (nonNeg (toZ w64 (ofZ w64 (toZ w64 (ofZ w64 (toZ w32 (ofZ w32 k))) +ℤ toZ w64 2147483648))))
+      × Fits w64 (natAbs (toZ w64 (ofZ w64 (toZ w64 (ofZ w64 (toZ w32 (ofZ w32 k))) +ℤ toZ w64 2147483648))))
+  sum-cast = rw sum-back (tt, record { fits = omega (arith, raised-top k (f .sfits)) })
 
-    pub below-rest : natAbs (toZ w32 (ofZ w32 (negsuc 0 -ℤ toZ w32 (ofZ w32 k)))) ≤ 18446744073709551615
-    below-rest = rw rest-back (omega (arith, f .sfits))
+  pub sum-wraps : (r : ℕ) → r ≡ (natAbs (toZ w64 (ofZ w64 (toZ w64 (ofZ w64 (toZ w32 (ofZ w32 k))) +ℤ toZ w64 2147483648))) + 18446744071562067968) % 2 ^ 64
+      → r ≡ complement k
+  sum-wraps r e = e ∙ ap (λ (x : ℤ). (natAbs x + 18446744071562067968) % 2 ^ 64) sum-back ∙ wrapped-is k (f .sfits)
 
-    pub below-is : 18446744073709551615 - natAbs (toZ w32 (ofZ w32 (negsuc 0 -ℤ toZ w32 (ofZ w32 k)))) ≡ complement k
-    below-is = rw (rest-back, complement-is k negative) (omega arith)
-
-  -- ---- any other
-
-  module _ (h : ltZ (toZ w32 (ofZ w32 k)) (pos 0) ≡ false) where
-    natural : k ≡ pos (mag k)
-    natural = natural-is k (rw back at h)
-
-    whole : toZ w32 (ofZ w32 k) ≡ pos (mag k)
-    whole = back ∙ natural
-
-    pub natural-cast : T (nonNeg (toZ w32 (ofZ w32 k))) × Fits w64 (natAbs (toZ w32 (ofZ w32 k)))
-    natural-cast = rw whole (tt, record { fits = omega (arith, f .sfits) })
-
-    pub natural-word : natAbs (toZ w32 (ofZ w32 k)) ≡ complement k
-    natural-word = rw whole (sym (ap complement natural))
-
-pub ruleset complementLaws = (below-fits, below-cast, below-rest, below-is, natural-cast, natural-word)
+pub ruleset complementLaws = (widens, sum-fits, sum-cast, sum-wraps)

@@ -1,11 +1,13 @@
--- The ways through the functions that write an answer (`movedLaws`, `replyLaws`). Assumes nothing.
+-- The ways through the functions that write an answer (`movedLaws`, `unreadyLaws`, `replyLaws`). Assumes nothing.
 use mathlib.Core.Path.{_≡_, ap, _∙_}
+use mathlib.Core.Bool.{Bool, true, false}
 use mathlib.Core.List.{List}
 use Prim.Native.Nat.{ℕ}
 use lib.IntN.{ℤ}
 use lib.Ieee.{Float, binary64, toBits}
 use Rattle.answer.specs.Answers.{numberOf, detailOf}
 use Rattle.answer.specs.declared.Refusal.{Refusal}
+use Rattle.answer.specs.declared.Refusal.the-variants.{Parameter}
 use Rattle.answer.specs.declared.Ratio.{Ratio}
 use Rattle.answer.specs.declared.Ratio.the-variants as Ratios
 use Rattle.answer.specs.declared.Moved.{Moved}
@@ -17,7 +19,7 @@ use Rattle.random.specs.declared.Random.{Random}
 use Rattle.tree.specs.declared.Verdict.{Verdict}
 use Rattle.tree.specs.declared.Verdict.the-variants as Verdicts
 use Rattle.record.specs.declared.Reply.{Reply}
-use Rattle.record.specs.Record.{complement, reply, movedReply, givenReply, declinedReply, refusedReply, withGenerator, withRoot, written, replied, proposed, answered, judged}
+use Rattle.record.specs.Record.{isRecord, noRecord, complement, reply, movedReply, givenReply, declinedReply, refusedReply, withGenerator, withRoot, written, replied, unready, proposed, answered, judged}
 
 -- ---- the reply of a move that was made
 
@@ -37,6 +39,19 @@ module _ (draws : ℕ) (ratio : Ratio) where
     moved-power k e q = rw (e, p, q)
 
 pub ruleset movedLaws = (moved-even, moved-counts, moved-lengths, moved-power)
+
+-- ---- words that are not ready: b is whether they are a record
+
+module _ (words : List ℕ) (b : Bool) (eb : b ≡ isRecord words) where
+  pub unready-short : b ≡ false → written noRecord words ≡ unready words
+  unfolding unready
+  unready-short n = rw (← eb, n)
+
+  pub unready-refused : b ≡ true → (r : ℕ) (after : List ℕ) → written r after ≡ replied (refusedReply (Parameter 0)) words → written r after ≡ unready words
+  unfolding unready
+  unready-refused y r after h = rw (← eb, y) h
+
+pub ruleset unreadyLaws = (unready-short, unready-refused)
 
 -- ---- what is written: r is the answer code, words are those before, and after those afterwards
 

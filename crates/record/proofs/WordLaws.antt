@@ -1,17 +1,19 @@
 -- The ways through the functions that read and write words (`wordLaws`). Assumes nothing.
 use mathlib.Core.Path.{_≡_, refl, sym, ap, _∙_}
+use mathlib.Core.Bool.{false}
 use mathlib.Core.List.{List, [], _∷_}
 use Prim.Native.Nat.{ℕ, _≤_, _<_}
 use native.Mathlib.Omega.{arith}
+use lib.Dec.{leb}
 use lib.ListN.{length, getD, set, List·getD-eq-default}
 use lib.Seq.{sets}
 use lib.Ieee.{Float, binary64, ofBits, toBits}
 use mir.Syntax.{w32}
 use mir.Val.{Fits}
-use borrow.Author.Tests.{lt-ltb, le-ltb}
+use borrow.Author.Tests.{lt-ltb, le-ltb, le-leb, lt-leb}
 use Rattle.random.specs.declared.Random.{Random}
 use Rattle.random.specs.Generator.{stateOf, fromState}
-use Rattle.record.specs.Record.{wordIn, realIn, generatorIn, rootIn, allowanceIn, givenIn, withGenerator}
+use Rattle.record.specs.Record.{isReady, wordIn, realIn, generatorIn, rootIn, allowanceIn, givenIn, withGenerator}
 
 -- ---- reading
 
@@ -37,11 +39,21 @@ module _ (words : List ℕ) where
     pub allowance-fits : w ≤ 65535 → Fits w32 w
     allowance-fits h = record { fits = omega arith }
 
+  pub ready-not : length words < 32 → false ≡ isReady words
+  ready-not h = rw (lt-leb 32 (length words) h)
+
+  module _ (h : 32 ≤ length words) where
+    pub ready-under : wordIn words 5 < 1 → leb 1 (wordIn words 5) ≡ isReady words
+    ready-under k = rw (le-leb 32 (length words) h, lt-leb 1 (wordIn words 5) k)
+
+    pub ready-top : 1 ≤ wordIn words 5 → leb (wordIn words 5) 65535 ≡ isReady words
+    ready-top k = rw (le-leb 32 (length words) h, le-leb 1 (wordIn words 5) k)
+
   pub given-is : (root : ℕ) (g : Random) (a : ℕ) → root ≡ rootIn words → g ≡ generatorIn words → a ≡ allowanceIn words
       → record { root = root; random = g; allowance = a } ≡ givenIn words
   given-is root g a p q r = λ i. record { root = p i; random = q i; allowance = r i }
 
-pub ruleset readLaws = (word-missing, real-is, generator-is, allowance-none, allowance-is, allowance-fits, given-is)
+pub ruleset readLaws = (word-missing, real-is, generator-is, allowance-none, allowance-is, allowance-fits, ready-not, ready-under, ready-top, given-is)
 
 -- ---- writing
 

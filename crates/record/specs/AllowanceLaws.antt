@@ -24,7 +24,7 @@ pub and-false : (b c : Bool) → c ≡ false → b && c ≡ false
 and-false true c e = e
 and-false false c e = refl
 
-limited-outside : (limits : Bool) (a : ℕ) → allowed a ≡ false → limited limits a ≡ Verdicts.Refused (Parameter 0)
+pub limited-outside : (limits : Bool) (a : ℕ) → allowed a ≡ false → limited limits a ≡ Verdicts.Refused (Parameter 0)
 limited-outside limits a e = rw (and-false limits (allowed a) e)
 
 -- whatever is checked before the allowance

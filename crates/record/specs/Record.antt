@@ -1,6 +1,6 @@
 -- The record of a call: the 64-bit words in which a host hands a call its numbers and finds what it answers. What a call reads of them, and what they
 -- are after an answer. A float stands in a word by its bits. Definitions only. Assumes nothing.
-use mathlib.Core.Bool.{Bool, cond}
+use mathlib.Core.Bool.{Bool, cond, _&&_}
 use mathlib.Core.List.{List, [], _∷_}
 use Prim.Native.Nat.{ℕ, suc, _-_, _^_}
 use lib.Dec.{leb, ltb}
@@ -10,6 +10,7 @@ use lib.IntN.{ℤ, pos, negsuc}
 use lib.Ieee.{Float, binary64, ofBits, toBits}
 use Rattle.answer.specs.Answers.{numberOf, detailOf, Kind, even, counts, lengths, power, kindOf, Value, natural, real, integer, valuesOf}
 use Rattle.answer.specs.declared.Refusal.{Refusal}
+use Rattle.answer.specs.declared.Refusal.the-variants.{Parameter}
 use Rattle.answer.specs.declared.Ratio.{Ratio}
 use Rattle.answer.specs.declared.Answer.{Answer}
 use Rattle.answer.specs.declared.Answer.the-variants as Answers
@@ -17,6 +18,7 @@ use Rattle.answer.specs.declared.Proposal.{Proposal}
 use Rattle.answer.specs.declared.Proposal.the-variants as Proposals
 use Rattle.random.specs.declared.Random.{Random}
 use Rattle.random.specs.Generator.{stateOf, fromState}
+use Rattle.random.specs.Draw.{allowed}
 use Rattle.tree.specs.declared.Verdict.{Verdict}
 use Rattle.tree.specs.declared.Verdict.the-variants as Verdicts
 use Rattle.record.specs.declared.Given.{Given}
@@ -50,6 +52,10 @@ rootIn words = wordIn words 4
 -- A word above 65,535 counts as 0: no call takes either for an allowance.
 abbrev pub allowanceIn : List ℕ → ℕ
 allowanceIn words = cond (ltb 65535 (wordIn words 5)) 0 (wordIn words 5)
+
+-- a record whose allowance a call takes
+abbrev pub isReady : List ℕ → Bool
+isReady words = isRecord words && allowed (wordIn words 5)
 
 -- a node, an index, a field, or the n of `below`
 abbrev pub nodeIn : List ℕ → ℕ
@@ -134,6 +140,10 @@ abbrev pub refusedReply : Refusal → Reply
 refusedReply why = reply 2 0 (numberOf why) (detailOf why) 0
 
 -- ---- what an answer leaves. A refused call writes words 8 to 12 and nothing else; every other writes the generator too
+
+-- words that are not ready: no record, or an allowance that no call takes
+unfoldable pub unready : List ℕ → Written
+unready words = onRecord words (replied (refusedReply (Parameter 0)) words)
 
 unfoldable pub proposed : Proposal → Random → List ℕ → Written
 proposed (Proposals.Scaled draws r) g words = replied (movedReply draws r) (withGenerator g words)

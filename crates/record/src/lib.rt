@@ -1,19 +1,21 @@
 // The record of a call: a slice of 64-bit words in which a host hands a call its numbers and finds what it answers. specs/Record.antt gives the place
-// and the form of each. A word that is not there reads as 0; what writes asks that the words are a record, which every call tests first. Assumes nothing.
+// and the form of each. A word that is not there reads as 0; what writes asks that the words are a record, which every call tests first, but for
+// `put_unready`, which tests it. Assumes nothing.
 ghost use mathlib.Core.Path.{_≡_};
 ghost use mathlib.Core.List.{[], _∷_};
 ghost use Prim.Native.Nat.{_≤_, _<_};
 ghost use lib.ListN.{length, set};
 ghost use lib.Seq.{sets};
 ghost use lib.Ieee.{binary64, toBits};
-ghost use Rattle.record.specs.Record.{isRecord, wordIn, realIn, generatorIn, rootIn, allowanceIn, nodeIn, tuningIn, givenIn};
-ghost use Rattle.record.specs.Record.{withGenerator, withRoot, withNode, complement, movedReply, givenReply, refusedReply, written, replied, proposed, answered, judged};
+ghost use Rattle.record.specs.Record.{isRecord, isReady, wordIn, realIn, generatorIn, rootIn, allowanceIn, nodeIn, tuningIn, givenIn};
+ghost use Rattle.record.specs.Record.{withGenerator, withRoot, withNode, complement, movedReply, givenReply, refusedReply, written, replied, unready, proposed, answered, judged};
 use answer::Answer;
 use answer::Proposal;
 use answer::Ratio;
 use answer::Refusal;
 use calls::Answered;
 use random::Random;
+use std::num::wrapping_add_u64;
 use tree::Verdict;
 
 // The fewest words of a record.
@@ -55,6 +57,16 @@ pub fn is_record(words: &[u64]) -> bool
     ensures { λ r. ⌜ r ≡ isRecord (now (words .entry)) ⌝ }
 {
     FEWEST <= words.len()
+}
+
+// Whether the words are a record and its allowance is 1 to 65,535: one test of both, before a call that does not validate.
+pub fn is_ready(words: &[u64]) -> bool
+    ensures { λ r. ⌜ r ≡ isReady (now (words .entry)) ⌝ }
+{
+    if FEWEST <= words.len() {
+        return 1 <= words[ALLOWANCE] && words[ALLOWANCE] <= LARGEST_ALLOWANCE;
+    }
+    false
 }
 
 // ---- what a call reads
@@ -189,14 +201,11 @@ pub fn put_reply(words: &mut [u64], reply: Reply) -> u64
     reply.code
 }
 
-// An exponent in two's complement.
+// An exponent in two's complement: raised by 2^31, so that it is not below 0, and lowered by as much, modulo 2^64.
 fn complement(k: i32) -> u64
     ensures { λ r. ⌜ r ≡ complement k ⌝ }
 {
-    if k < 0 {
-        return u64::MAX - (-1 - k) as u64;
-    }
-    k as u64
+    wrapping_add_u64((k as i64 + 2147483648) as u64, 0xffff_ffff_8000_0000)
 }
 
 // The reply of a move that was made.
@@ -274,6 +283,16 @@ pub fn put_refusal(words: &mut [u64], why: Refusal) -> u64
             second: 0,
         },
     )
+}
+
+// What a call that is not ready answers.
+pub fn put_unready(words: &mut [u64]) -> u64
+    ensures { λ r. ⌜ written r (now (words .exit)) ≡ unready (now (words .entry)) ⌝ }
+{
+    if is_record(words) {
+        return put_refusal(words, Refusal::Parameter(0));
+    }
+    NO_RECORD
 }
 
 // What a call on parameters answers.

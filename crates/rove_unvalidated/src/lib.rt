@@ -6,7 +6,6 @@ ghost use Rattle.moves.specs.Moves.{nodeHeight, subtreeSlide, narrowExchange, w
 ghost use Rattle.record.specs.Record.{written, nodeIn, tuningIn};
 ghost use Rattle.tree.specs.New.{Accepted};
 ghost use Rattle.rove.specs.Exports.{left, treeIn, exported, startExported};
-use record::NO_RECORD;
 
 #[no_mangle]
 pub extern "C" fn rove_node_height_unvalidated(
@@ -17,7 +16,7 @@ pub extern "C" fn rove_node_height_unvalidated(
 ) -> u64
     ensures { λ r. ⌜ (Accepted (treeIn (now (pairs .entry)) (now (parents .entry)) (now (heights .entry)) (now (words .entry))) → left (written r (now (words .exit))) (now (pairs .entry)) (now (parents .entry)) (now (heights .exit)) ≡ exported nodeHeight (now (pairs .entry)) (now (parents .entry)) (now (heights .entry)) (now (words .entry))) ⌝ }
 {
-    if record::is_record(words) {
+    if record::is_ready(words) {
         let given = record::read(words);
         let random = given.random;
         let answered = heights::node_height_unvalidated(
@@ -30,7 +29,7 @@ pub extern "C" fn rove_node_height_unvalidated(
         );
         return record::put_answer(words, answered);
     }
-    NO_RECORD
+    record::put_unready(words)
 }
 
 // The first call of SubtreeSlide: a node into word 6, and two uniforms.
@@ -43,7 +42,7 @@ pub extern "C" fn rove_slide_start_unvalidated(
 ) -> u64
     ensures { λ r. ⌜ (Accepted (treeIn (now (pairs .entry)) (now (parents .entry)) (now (heights .entry)) (now (words .entry))) → written r (now (words .exit)) ≡ startExported (now (pairs .entry)) (now (parents .entry)) (now (heights .entry)) (now (words .entry))) ⌝ }
 {
-    if record::is_record(words) {
+    if record::is_ready(words) {
         let given = record::read(words);
         let random = given.random;
         let started = slide::slide_start_unvalidated(
@@ -56,7 +55,7 @@ pub extern "C" fn rove_slide_start_unvalidated(
         );
         return rove::put_started(words, started);
     }
-    NO_RECORD
+    record::put_unready(words)
 }
 
 // The second call of SubtreeSlide, with the node in word 6 and the step in word 7.
@@ -69,7 +68,7 @@ pub extern "C" fn rove_subtree_slide_unvalidated(
 ) -> u64
     ensures { λ r. ⌜ (Accepted (treeIn (now (pairs .entry)) (now (parents .entry)) (now (heights .entry)) (now (words .entry))) → left (written r (now (words .exit))) (now (pairs .exit)) (now (parents .exit)) (now (heights .exit)) ≡ exported (subtreeSlide (nodeIn (now (words .entry))) (tuningIn (now (words .entry)))) (now (pairs .entry)) (now (parents .entry)) (now (heights .entry)) (now (words .entry))) ⌝ }
 {
-    if record::is_record(words) {
+    if record::is_ready(words) {
         let given = record::read(words);
         let random = given.random;
         let node = record::node(words);
@@ -86,7 +85,7 @@ pub extern "C" fn rove_subtree_slide_unvalidated(
         );
         return record::put_answer(words, answered);
     }
-    NO_RECORD
+    record::put_unready(words)
 }
 
 #[no_mangle]
@@ -98,7 +97,7 @@ pub extern "C" fn rove_narrow_exchange_unvalidated(
 ) -> u64
     ensures { λ r. ⌜ (Accepted (treeIn (now (pairs .entry)) (now (parents .entry)) (now (heights .entry)) (now (words .entry))) → left (written r (now (words .exit))) (now (pairs .exit)) (now (parents .exit)) (now (heights .entry)) ≡ exported narrowExchange (now (pairs .entry)) (now (parents .entry)) (now (heights .entry)) (now (words .entry))) ⌝ }
 {
-    if record::is_record(words) {
+    if record::is_ready(words) {
         let given = record::read(words);
         let random = given.random;
         let answered = exchanges::narrow_exchange_unvalidated(
@@ -111,7 +110,7 @@ pub extern "C" fn rove_narrow_exchange_unvalidated(
         );
         return record::put_answer(words, answered);
     }
-    NO_RECORD
+    record::put_unready(words)
 }
 
 #[no_mangle]
@@ -123,7 +122,7 @@ pub extern "C" fn rove_wide_exchange_unvalidated(
 ) -> u64
     ensures { λ r. ⌜ (Accepted (treeIn (now (pairs .entry)) (now (parents .entry)) (now (heights .entry)) (now (words .entry))) → left (written r (now (words .exit))) (now (pairs .exit)) (now (parents .exit)) (now (heights .entry)) ≡ exported wideExchange (now (pairs .entry)) (now (parents .entry)) (now (heights .entry)) (now (words .entry))) ⌝ }
 {
-    if record::is_record(words) {
+    if record::is_ready(words) {
         let given = record::read(words);
         let random = given.random;
         let answered = exchanges::wide_exchange_unvalidated(
@@ -136,7 +135,7 @@ pub extern "C" fn rove_wide_exchange_unvalidated(
         );
         return record::put_answer(words, answered);
     }
-    NO_RECORD
+    record::put_unready(words)
 }
 
 #[no_mangle]
@@ -148,7 +147,7 @@ pub extern "C" fn rove_wilson_balding_unvalidated(
 ) -> u64
     ensures { λ r. ⌜ (Accepted (treeIn (now (pairs .entry)) (now (parents .entry)) (now (heights .entry)) (now (words .entry))) → left (written r (now (words .exit))) (now (pairs .exit)) (now (parents .exit)) (now (heights .exit)) ≡ exported wilsonBalding (now (pairs .entry)) (now (parents .entry)) (now (heights .entry)) (now (words .entry))) ⌝ }
 {
-    if record::is_record(words) {
+    if record::is_ready(words) {
         let given = record::read(words);
         let random = given.random;
         let answered = wilson::wilson_balding_unvalidated(
@@ -161,7 +160,7 @@ pub extern "C" fn rove_wilson_balding_unvalidated(
         );
         return record::put_answer(words, answered);
     }
-    NO_RECORD
+    record::put_unready(words)
 }
 
 // With the tuning in word 7.
@@ -174,7 +173,7 @@ pub extern "C" fn rove_root_scale_unvalidated(
 ) -> u64
     ensures { λ r. ⌜ (Accepted (treeIn (now (pairs .entry)) (now (parents .entry)) (now (heights .entry)) (now (words .entry))) → left (written r (now (words .exit))) (now (pairs .entry)) (now (parents .entry)) (now (heights .exit)) ≡ exported (rootScale (tuningIn (now (words .entry)))) (now (pairs .entry)) (now (parents .entry)) (now (heights .entry)) (now (words .entry))) ⌝ }
 {
-    if record::is_record(words) {
+    if record::is_ready(words) {
         let given = record::read(words);
         let random = given.random;
         let tuning = record::tuning(words);
@@ -189,7 +188,7 @@ pub extern "C" fn rove_root_scale_unvalidated(
         );
         return record::put_answer(words, answered);
     }
-    NO_RECORD
+    record::put_unready(words)
 }
 
 // With the tuning in word 7.
@@ -202,7 +201,7 @@ pub extern "C" fn rove_tree_scale_unvalidated(
 ) -> u64
     ensures { λ r. ⌜ (Accepted (treeIn (now (pairs .entry)) (now (parents .entry)) (now (heights .entry)) (now (words .entry))) → left (written r (now (words .exit))) (now (pairs .entry)) (now (parents .entry)) (now (heights .exit)) ≡ exported (treeScale (tuningIn (now (words .entry)))) (now (pairs .entry)) (now (parents .entry)) (now (heights .entry)) (now (words .entry))) ⌝ }
 {
-    if record::is_record(words) {
+    if record::is_ready(words) {
         let given = record::read(words);
         let random = given.random;
         let tuning = record::tuning(words);
@@ -217,5 +216,5 @@ pub extern "C" fn rove_tree_scale_unvalidated(
         );
         return record::put_answer(words, answered);
     }
-    NO_RECORD
+    record::put_unready(words)
 }

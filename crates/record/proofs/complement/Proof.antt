@@ -1,27 +1,30 @@
 -- `record::complement` meets its contract. Assumes nothing.
 use borrow.Author.Needs.{needs}
-use Rattle.record.proofs.ComplementLaws.{complementLaws, below-cast, natural-cast}
+use Rattle.record.proofs.ComplementLaws.{complementLaws}
 use Rattle.record.proofs.complement.Statement.{statement}
 use Rattle.record.proofs.complement.Tie as tie
 
-sub-result : tie.Need-sub-result
-sub-result c = search (complementLaws, needs)
+cast-wrapping-add-u64 : tie.Need-cast-wrapping-add-u64
+cast-wrapping-add-u64 c = search (complementLaws, needs)
 
-cast-result : tie.Need-cast-result
-cast-result c = below-cast (c .before .args .k) (c .before .fits .k) (c .if1 .taken)
+add-wrapping-add-u64 : tie.Need-add-wrapping-add-u64
+add-wrapping-add-u64 c = search (complementLaws, needs)
 
-sub-result-2 : tie.Need-sub-result-2
-sub-result-2 c = search (complementLaws, needs)
+cast-wrapping-add-u64-2 : tie.Need-cast-wrapping-add-u64-2
+cast-wrapping-add-u64-2 c = search (complementLaws, needs)
+
+wrapping-add-u64-requires : tie.Need-wrapping-add-u64-requires
+wrapping-add-u64-requires c κs = search (complementLaws, needs)
 
 returns : tie.Need-returns
 returns c = search (complementLaws, needs)
 
-cast-result-2 : tie.Need-cast-result-2
-cast-result-2 c = natural-cast (c .before .args .k) (c .before .fits .k) (c .if1 .left)
-
-returns-2 : tie.Need-returns-2
-returns-2 c = search (complementLaws, needs)
-
 pub complement-spec : {M : Type 1} → statement M
 complement-spec =
-    tie.close (tie.spec sub-result cast-result sub-result-2 returns cast-result-2 returns-2)
+    tie.close
+    (tie.spec
+    cast-wrapping-add-u64
+    add-wrapping-add-u64
+    cast-wrapping-add-u64-2
+    wrapping-add-u64-requires
+    returns)

@@ -5,8 +5,8 @@ use Rattle.rove_unvalidated.proofs.UnvalidatedLaws.{moveLaws}
 use Rattle.rove_unvalidated.proofs.rove_slide_start_unvalidated.Statement.{statement}
 use Rattle.rove_unvalidated.proofs.rove_slide_start_unvalidated.Tie as tie
 
-is-record-requires : tie.Need-is-record-requires
-is-record-requires c κs = search needs
+is-ready-requires : tie.Need-is-ready-requires
+is-ready-requires c κs = search needs
 
 read-requires : tie.Need-read-requires
 read-requires c κs = search needs
@@ -23,6 +23,9 @@ same-length c = search needs
 returns : tie.Need-returns
 returns c = search (moveLaws, needs)
 
+put-unready-requires : tie.Need-put-unready-requires
+put-unready-requires c κs = search needs
+
 same-length-2 : tie.Need-same-length-2
 same-length-2 c = search needs
 
@@ -33,11 +36,12 @@ pub rove-slide-start-unvalidated-spec : {M : Type 1} → statement M
 rove-slide-start-unvalidated-spec =
     tie.close
     (tie.spec
-    is-record-requires
+    is-ready-requires
     read-requires
     slide-start-unvalidated-requires
     put-started-requires
     same-length
     returns
+    put-unready-requires
     same-length-2
     returns-2)

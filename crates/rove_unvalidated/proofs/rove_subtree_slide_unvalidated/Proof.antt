@@ -5,8 +5,8 @@ use Rattle.rove_unvalidated.proofs.UnvalidatedLaws.{moveLaws}
 use Rattle.rove_unvalidated.proofs.rove_subtree_slide_unvalidated.Statement.{statement}
 use Rattle.rove_unvalidated.proofs.rove_subtree_slide_unvalidated.Tie as tie
 
-is-record-requires : tie.Need-is-record-requires
-is-record-requires c κs = search needs
+is-ready-requires : tie.Need-is-ready-requires
+is-ready-requires c κs = search needs
 
 read-requires : tie.Need-read-requires
 read-requires c κs = search needs
@@ -38,6 +38,9 @@ same-length-4 c = search needs
 returns : tie.Need-returns
 returns c = search (moveLaws, needs)
 
+put-unready-requires : tie.Need-put-unready-requires
+put-unready-requires c κs = search needs
+
 same-length-5 : tie.Need-same-length-5
 same-length-5 c = search needs
 
@@ -48,7 +51,7 @@ pub rove-subtree-slide-unvalidated-spec : {M : Type 1} → statement M
 rove-subtree-slide-unvalidated-spec =
     tie.close
     (tie.spec
-    is-record-requires
+    is-ready-requires
     read-requires
     node-requires
     tuning-requires
@@ -59,5 +62,6 @@ rove-subtree-slide-unvalidated-spec =
     same-length-3
     same-length-4
     returns
+    put-unready-requires
     same-length-5
     returns-2)

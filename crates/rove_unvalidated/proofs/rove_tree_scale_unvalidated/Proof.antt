@@ -5,8 +5,8 @@ use Rattle.rove_unvalidated.proofs.UnvalidatedLaws.{moveLaws}
 use Rattle.rove_unvalidated.proofs.rove_tree_scale_unvalidated.Statement.{statement}
 use Rattle.rove_unvalidated.proofs.rove_tree_scale_unvalidated.Tie as tie
 
-is-record-requires : tie.Need-is-record-requires
-is-record-requires c κs = search needs
+is-ready-requires : tie.Need-is-ready-requires
+is-ready-requires c κs = search needs
 
 read-requires : tie.Need-read-requires
 read-requires c κs = search needs
@@ -29,6 +29,9 @@ same-length-2 c = search needs
 returns : tie.Need-returns
 returns c = search (moveLaws, needs)
 
+put-unready-requires : tie.Need-put-unready-requires
+put-unready-requires c κs = search needs
+
 same-length-3 : tie.Need-same-length-3
 same-length-3 c = search needs
 
@@ -39,7 +42,7 @@ pub rove-tree-scale-unvalidated-spec : {M : Type 1} → statement M
 rove-tree-scale-unvalidated-spec =
     tie.close
     (tie.spec
-    is-record-requires
+    is-ready-requires
     read-requires
     tuning-requires
     tree-scale-unvalidated-requires
@@ -47,5 +50,6 @@ rove-tree-scale-unvalidated-spec =
     same-length
     same-length-2
     returns
+    put-unready-requires
     same-length-3
     returns-2)

@@ -5,8 +5,8 @@ use Rattle.rove_unvalidated.proofs.UnvalidatedLaws.{moveLaws}
 use Rattle.rove_unvalidated.proofs.rove_wilson_balding_unvalidated.Statement.{statement}
 use Rattle.rove_unvalidated.proofs.rove_wilson_balding_unvalidated.Tie as tie
 
-is-record-requires : tie.Need-is-record-requires
-is-record-requires c κs = search needs
+is-ready-requires : tie.Need-is-ready-requires
+is-ready-requires c κs = search needs
 
 read-requires : tie.Need-read-requires
 read-requires c κs = search needs
@@ -32,6 +32,9 @@ same-length-4 c = search needs
 returns : tie.Need-returns
 returns c = search (moveLaws, needs)
 
+put-unready-requires : tie.Need-put-unready-requires
+put-unready-requires c κs = search needs
+
 same-length-5 : tie.Need-same-length-5
 same-length-5 c = search needs
 
@@ -42,7 +45,7 @@ pub rove-wilson-balding-unvalidated-spec : {M : Type 1} → statement M
 rove-wilson-balding-unvalidated-spec =
     tie.close
     (tie.spec
-    is-record-requires
+    is-ready-requires
     read-requires
     wilson-balding-unvalidated-requires
     put-answer-requires
@@ -51,5 +54,6 @@ rove-wilson-balding-unvalidated-spec =
     same-length-3
     same-length-4
     returns
+    put-unready-requires
     same-length-5
     returns-2)
