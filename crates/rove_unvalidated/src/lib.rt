@@ -9,10 +9,10 @@ ghost use Rattle.rove.specs.Exports.{left, treeIn, exported, startExported};
 
 #[no_mangle]
 pub extern "C" fn rove_node_height_unvalidated(
+    words: &mut [u64],
     pairs: &[u16],
     parents: &[u16],
     heights: &mut [f64],
-    words: &mut [u64],
 ) -> u64
     ensures { λ r. ⌜ (Accepted (treeIn (now (pairs .entry)) (now (parents .entry)) (now (heights .entry)) (now (words .entry))) → left (written r (now (words .exit))) (now (pairs .entry)) (now (parents .entry)) (now (heights .exit)) ≡ exported nodeHeight (now (pairs .entry)) (now (parents .entry)) (now (heights .entry)) (now (words .entry))) ⌝ }
 {
@@ -35,10 +35,10 @@ pub extern "C" fn rove_node_height_unvalidated(
 // The first call of SubtreeSlide: a node into word 6, and two uniforms.
 #[no_mangle]
 pub extern "C" fn rove_slide_start_unvalidated(
+    words: &mut [u64],
     pairs: &[u16],
     parents: &[u16],
     heights: &[f64],
-    words: &mut [u64],
 ) -> u64
     ensures { λ r. ⌜ (Accepted (treeIn (now (pairs .entry)) (now (parents .entry)) (now (heights .entry)) (now (words .entry))) → written r (now (words .exit)) ≡ startExported (now (pairs .entry)) (now (parents .entry)) (now (heights .entry)) (now (words .entry))) ⌝ }
 {
@@ -61,10 +61,10 @@ pub extern "C" fn rove_slide_start_unvalidated(
 // The second call of SubtreeSlide, with the node in word 6 and the step in word 7.
 #[no_mangle]
 pub extern "C" fn rove_subtree_slide_unvalidated(
+    words: &mut [u64],
     pairs: &mut [u16],
     parents: &mut [u16],
     heights: &mut [f64],
-    words: &mut [u64],
 ) -> u64
     ensures { λ r. ⌜ (Accepted (treeIn (now (pairs .entry)) (now (parents .entry)) (now (heights .entry)) (now (words .entry))) → left (written r (now (words .exit))) (now (pairs .exit)) (now (parents .exit)) (now (heights .exit)) ≡ exported (subtreeSlide (nodeIn (now (words .entry))) (tuningIn (now (words .entry)))) (now (pairs .entry)) (now (parents .entry)) (now (heights .entry)) (now (words .entry))) ⌝ }
 {
@@ -90,10 +90,10 @@ pub extern "C" fn rove_subtree_slide_unvalidated(
 
 #[no_mangle]
 pub extern "C" fn rove_narrow_exchange_unvalidated(
+    words: &mut [u64],
     pairs: &mut [u16],
     parents: &mut [u16],
     heights: &[f64],
-    words: &mut [u64],
 ) -> u64
     ensures { λ r. ⌜ (Accepted (treeIn (now (pairs .entry)) (now (parents .entry)) (now (heights .entry)) (now (words .entry))) → left (written r (now (words .exit))) (now (pairs .exit)) (now (parents .exit)) (now (heights .entry)) ≡ exported narrowExchange (now (pairs .entry)) (now (parents .entry)) (now (heights .entry)) (now (words .entry))) ⌝ }
 {
@@ -115,10 +115,10 @@ pub extern "C" fn rove_narrow_exchange_unvalidated(
 
 #[no_mangle]
 pub extern "C" fn rove_wide_exchange_unvalidated(
+    words: &mut [u64],
     pairs: &mut [u16],
     parents: &mut [u16],
     heights: &[f64],
-    words: &mut [u64],
 ) -> u64
     ensures { λ r. ⌜ (Accepted (treeIn (now (pairs .entry)) (now (parents .entry)) (now (heights .entry)) (now (words .entry))) → left (written r (now (words .exit))) (now (pairs .exit)) (now (parents .exit)) (now (heights .entry)) ≡ exported wideExchange (now (pairs .entry)) (now (parents .entry)) (now (heights .entry)) (now (words .entry))) ⌝ }
 {
@@ -140,10 +140,10 @@ pub extern "C" fn rove_wide_exchange_unvalidated(
 
 #[no_mangle]
 pub extern "C" fn rove_wilson_balding_unvalidated(
+    words: &mut [u64],
     pairs: &mut [u16],
     parents: &mut [u16],
     heights: &mut [f64],
-    words: &mut [u64],
 ) -> u64
     ensures { λ r. ⌜ (Accepted (treeIn (now (pairs .entry)) (now (parents .entry)) (now (heights .entry)) (now (words .entry))) → left (written r (now (words .exit))) (now (pairs .exit)) (now (parents .exit)) (now (heights .exit)) ≡ exported wilsonBalding (now (pairs .entry)) (now (parents .entry)) (now (heights .entry)) (now (words .entry))) ⌝ }
 {
@@ -166,10 +166,10 @@ pub extern "C" fn rove_wilson_balding_unvalidated(
 // With the tuning in word 7.
 #[no_mangle]
 pub extern "C" fn rove_root_scale_unvalidated(
+    words: &mut [u64],
     pairs: &[u16],
     parents: &[u16],
     heights: &mut [f64],
-    words: &mut [u64],
 ) -> u64
     ensures { λ r. ⌜ (Accepted (treeIn (now (pairs .entry)) (now (parents .entry)) (now (heights .entry)) (now (words .entry))) → left (written r (now (words .exit))) (now (pairs .entry)) (now (parents .entry)) (now (heights .exit)) ≡ exported (rootScale (tuningIn (now (words .entry)))) (now (pairs .entry)) (now (parents .entry)) (now (heights .entry)) (now (words .entry))) ⌝ }
 {
@@ -194,10 +194,10 @@ pub extern "C" fn rove_root_scale_unvalidated(
 // With the tuning in word 7.
 #[no_mangle]
 pub extern "C" fn rove_tree_scale_unvalidated(
+    words: &mut [u64],
     pairs: &[u16],
     parents: &[u16],
     heights: &mut [f64],
-    words: &mut [u64],
 ) -> u64
     ensures { λ r. ⌜ (Accepted (treeIn (now (pairs .entry)) (now (parents .entry)) (now (heights .entry)) (now (words .entry))) → left (written r (now (words .exit))) (now (pairs .entry)) (now (parents .entry)) (now (heights .exit)) ≡ exported (treeScale (tuningIn (now (words .entry)))) (now (pairs .entry)) (now (parents .entry)) (now (heights .entry)) (now (words .entry))) ⌝ }
 {
