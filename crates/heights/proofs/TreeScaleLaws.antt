@@ -1,5 +1,5 @@
 -- The ways through TreeScale: the lowest node that overflows (`lowestLaws`), the heights that are scaled (`scaleLaws`), the ratio
--- (`ratioLaws`), and the turn (`treeScaleLaws`). Assumes nothing.
+-- (`ratioLaws`), the turn (`treeScaleLaws`), and the answer with the heights after it (`scaleAnswerLaws`, `scale-power`). Assumes nothing.
 use mathlib.Core.Path.{_≡_, refl, sym, ap, _∙_}
 use mathlib.Core.Bool.{Bool, true, false, true≢false, not, _&&_, cond}
 use mathlib.Core.List.{List}
@@ -9,7 +9,7 @@ use native.Mathlib.Numerals.{add-one}
 use lib.Dec.{T, ltb, leb, leb→le, ltb→lt}
 use lib.ListN.{length, getD, set}
 use lib.Seq.{getD-set-other}
-use lib.IntN.{pos, negsuc, _-ℤ_}
+use lib.IntN.{ℤ, pos, negsuc, _-ℤ_}
 use lib.Ieee.{Float, nan, binary64, mul}
 use lib.Ieee.Bits.{is-true}
 use lib.Ieee.Fits.{and-l, and-r}
@@ -18,25 +18,37 @@ use mir.Val.{SFits, toZ, ofZ}
 use mir.Syntax.{w32}
 use mir.Facts.{toZ-pos, toZ-ofZ}
 use borrow.Author.Tests.{lt-ltb, le-ltb, le-leb}
+use Rattle.answer.specs.declared.Answer.{Answer}
+use Rattle.answer.specs.declared.Answer.the-variants as Answers
+use Rattle.answer.specs.declared.Moved.{Moved}
+use Rattle.answer.specs.declared.Refusal.{Refusal}
 use Rattle.answer.specs.declared.Ratio.{Ratio}
 use Rattle.answer.specs.declared.Ratio.the-variants.{Power}
+use Rattle.random.specs.declared.Random.{Random}
 use Rattle.random.specs.declared.Supply.{Supply}
 use Rattle.random.specs.declared.DrawnReal.{DrawnReal}
-use Rattle.random.specs.Draw.{uniform, got, run, drawnReal}
+use Rattle.random.specs.Draw.{Draw, uniform, got, run, supplyOf, drawnReal}
 use Rattle.random.specs.DrawLaws.{bind-got, bind-spent}
 use Rattle.tree.specs.Tree.{Tree, nodesOf, inner, height}
+use Rattle.tree.specs.declared.Verdict.{Verdict}
+use Rattle.tree.specs.declared.Verdict.the-variants as Verdicts
+use Rattle.tree.specs.New.{Accepted}
 use Rattle.tree.specs.Valid.{Valid}
 use Rattle.tree.specs.Given.{treeOf}
 use Rattle.tree.specs.PlaceLaws.{wide16}
 use Rattle.edits.specs.Slots.{setHeight}
 use Rattle.rules.specs.Rules.{internals, scaledTo, treeScaled, treeScaleRatio}
+use Rattle.calls.specs.declared.Answered.{Answered}
+use Rattle.calls.specs.declared.Turn.{Turn}
+use Rattle.calls.specs.declared.Turned.{Turned}
 use Rattle.calls.specs.declared.Turned.the-variants as Turns
-use Rattle.calls.specs.Call.{makes, notFinite, moved}
+use Rattle.calls.specs.Call.{Reply, makes, notFinite, Outcome, moved, called, limited, treeCall}
 use Rattle.calls.specs.Draws.{scaler, least}
 use Rattle.moves.specs.Programs.{overflows, treeScale}
-use Rattle.calls.specs.Given.{After, afterOn, turnOf}
+use Rattle.calls.specs.Given.{After, after, afterOn, turnOf, turnedBack, answeredOf}
+use Rattle.calls.specs.EntryLaws.{unvalidated-refused, unvalidated-done}
 use Rattle.calls.specs.LeastLaws.{least-none, least-step, least-stop, least-some}
-use Rattle.heights.specs.Given.{heightsOf, scalable}
+use Rattle.heights.specs.Given.{heightsOf, scalable, scaledWith, scaledTurn, scaledBy}
 use Rattle.random.specs.SupplyLaws.{real-got, real-spent}
 use Rattle.heights.specs.ProductLaws.{height-finite}
 use Rattle.accepted.specs.RootLaws.{root-inner}
@@ -209,10 +221,14 @@ module _ (pairs parents : List ℕ) (heights : List Float) (root : ℕ) (tuning 
         go true x z = rw z
         go false x z = refl
 
-    pub tree-moved : b ≡ true → (z : Ratio) → z ≡ treeScaleRatio (length heights) f → (hs : List Float) → hs ≡ scaledTo (length heights) (heightsOf heights) f (length heights) .heights
+    moved-to : b ≡ true → (z : Ratio) → z ≡ treeScaleRatio (length heights) f → (hs : List Float) → hs ≡ scaledTo (length heights) (heightsOf heights) f (length heights) .heights
         → afterOn (Turns.Moved root z) (u .supply) (treeOf pairs parents hs root) ≡ turnOf t s (run (treeScale tuning t) s)
     unfolding turnOf
-    tree-moved y z ez hs w = rw (ran, all-finite y, le-ltb n n (omega arith), scaled-whole n t f n, ez, w, long)
+    moved-to y z ez hs w = rw (ran, all-finite y, le-ltb n n (omega arith), scaled-whole n t f n, ez, w, long)
+
+    pub tree-moved : b ≡ true → (z : Ratio) → z ≡ treeScaleRatio (length heights) f
+        → afterOn (Turns.Moved root z) (u .supply) (treeOf pairs parents (scaledWith z heights) root) ≡ turnOf t s (run (treeScale tuning t) s)
+    tree-moved y z ez = moved-to y z ez (scaledWith z heights) (ap (λ (x : Ratio). scaledWith x heights) ez)
 
     pub tree-not-finite : b ≡ false → (j : ℕ) → j ≡ least (overflows (length heights) (heightsOf heights) f) (length heights)
         → afterOn (Turns.NotFinite j) (u .supply) t ≡ turnOf t s (run (treeScale tuning t) s)
@@ -222,3 +238,38 @@ module _ (pairs parents : List ℕ) (heights : List Float) (root : ℕ) (tuning 
         rw (ran, lt-ltb k n m, ej, long)
 
 pub ruleset treeScaleLaws = (tree-spent, tree-unscalable, tree-moved, tree-not-finite, few-nodes, root-place, wide16)
+
+-- ---- the answer, and the heights after it
+
+-- a call's answer scales as its turn does
+settled : (x : Turned) (s : Supply) (g : Random) (allowance : ℕ) (hs : List Float) → scaledBy (answeredOf x s g allowance .answer) hs ≡ scaledTurn x hs
+unfolding answeredOf
+settled (Turns.Moved root r) s g allowance hs = refl
+settled Turns.Declined s g allowance hs = refl
+settled Turns.Spent s g allowance hs = refl
+settled (Turns.NotFinite k) s g allowance hs = refl
+settled (Turns.Outside k) s g allowance hs = refl
+
+-- as for any unvalidated call (calls/EntryLaws)
+module _ (pairs parents : List ℕ) (heights : List Float) (root : ℕ) (h : Accepted (treeOf pairs parents heights root)) (limits b : Bool) (eb : b ≡ limits)
+    (allowance : ℕ) (v : Verdict) (ev : v ≡ limited b allowance) (program : Draw (Reply Outcome)) (g : Random) where
+  pub scale-refused : (why : Refusal) → v ≡ Verdicts.Refused why → (r : Answered) → r ≡ turnedBack why g
+      → called (r .answer) (r .random) pairs parents (scaledBy (r .answer) heights) ≡ treeCall limits program (treeOf pairs parents heights root) g allowance
+  scale-refused why y r er =
+      let e : scaledBy (r .answer) heights ≡ heights = ap (λ (x : Answered). scaledBy (x .answer) heights) er in
+      rw e (unvalidated-refused pairs parents heights root h limits b eb allowance v ev program g why y r er)
+
+  pub scale-done : v ≡ Verdicts.Fine → (turn : Turn)
+      → (Valid (nodesOf pairs) (treeOf pairs parents heights root) → after turn pairs parents (scaledTurn (turn .turned) heights) ≡ turnOf (treeOf pairs parents heights root) (supplyOf g allowance) (run program (supplyOf g allowance)))
+      → (r : Answered) → r ≡ answeredOf (turn .turned) (turn .supply) g allowance
+      → called (r .answer) (r .random) pairs parents (scaledBy (r .answer) heights) ≡ treeCall limits program (treeOf pairs parents heights root) g allowance
+  scale-done y turn f r er =
+      let e : scaledBy (r .answer) heights ≡ scaledTurn (turn .turned) heights = ap (λ (x : Answered). scaledBy (x .answer) heights) er ∙ settled (turn .turned) (turn .supply) g allowance heights in
+      rw e (unvalidated-done pairs parents heights root h limits b eb allowance v ev program g y turn pairs parents (scaledTurn (turn .turned) heights) f r er)
+
+pub ruleset scaleAnswerLaws = (scale-refused, scale-done)
+
+-- a power scales
+pub scale-power : (a : Answer) (m : Moved) → a ≡ Answers.Moved m → (f : Float) (k : ℤ) → m .ratio ≡ Power f k → (hs₀ hs : List Float)
+    → hs ≡ scaledTo (length hs₀) (heightsOf hs₀) f (length hs₀) .heights → hs ≡ scaledBy a hs₀
+scale-power a m ea f k er hs₀ hs w = rw (ea, er) w

@@ -9,7 +9,13 @@ use Rattle.random.specs.declared.Supply.{Supply}
 use Rattle.tree.specs.Tree.{Tree, nodesOf, firstIn, secondIn}
 use Rattle.tree.specs.Given.{kinIn}
 use Rattle.calls.specs.declared.Turn.{Turn}
+use Rattle.calls.specs.declared.Turned.{Turned}
 use Rattle.calls.specs.declared.Turned.the-variants as Turns
+use Rattle.answer.specs.declared.Answer.{Answer}
+use Rattle.answer.specs.declared.Answer.the-variants as Answers
+use Rattle.answer.specs.declared.Ratio.{Ratio}
+use Rattle.answer.specs.declared.Ratio.the-variants as Ratios
+use Rattle.rules.specs.Rules.{scaledTo}
 
 -- what is read of a tree for its heights alone
 abbrev pub heightsOf : List Float → Tree
@@ -38,3 +44,26 @@ hasKin pairs parents heights k = hasChildren pairs heights k && ltb k (length pa
 -- the root has a height, of no more than the largest tree has
 abbrev pub scalable : List Float → ℕ → Bool
 scalable heights root = leb (length heights) 4095 && ltb root (length heights)
+
+-- ---- the heights after TreeScale
+
+-- every internal height times the factor of a power
+abbrev pub scaledWith : Ratio → List Float → List Float
+scaledWith (Ratios.Power f k) heights = scaledTo (length heights) (heightsOf heights) f (length heights) .heights
+scaledWith Ratios.Even heights = heights
+scaledWith (Ratios.Counts a b) heights = heights
+scaledWith (Ratios.Lengths a b) heights = heights
+
+-- after a turn that ended so
+abbrev pub scaledTurn : Turned → List Float → List Float
+scaledTurn (Turns.Moved root ratio) heights = scaledWith ratio heights
+scaledTurn Turns.Declined heights = heights
+scaledTurn Turns.Spent heights = heights
+scaledTurn (Turns.NotFinite k) heights = heights
+scaledTurn (Turns.Outside k) heights = heights
+
+-- after a call that answered so
+abbrev pub scaledBy : Answer → List Float → List Float
+scaledBy (Answers.Moved m) heights = scaledWith (m .ratio) heights
+scaledBy (Answers.Declined draws) heights = heights
+scaledBy (Answers.Refused why) heights = heights

@@ -16,7 +16,8 @@ ghost use Rattle.calls.specs.Draws.{least};
 ghost use Rattle.moves.specs.Programs.{overflows, nonRootInternal, placing};
 ghost use Rattle.moves.specs.Moves.{nodeHeight, rootScale, treeScale, moveCall};
 ghost use Rattle.calls.specs.Given.{after, turnOf};
-ghost use Rattle.heights.specs.Given.{heightsOf, shaped, hasChildren, hasKin, scalable, stays};
+ghost use Rattle.heights.specs.Given.{heightsOf, shaped, hasChildren, hasKin, scalable, stays, scaledTurn, scaledBy};
+use answer::Answer;
 use answer::Ratio;
 use calls::Answered;
 use calls::Height;
@@ -353,16 +354,17 @@ fn tree_scale_ratio(n: usize, f: f64) -> Ratio
     Ratio::Power(f, (n / 2) as i32 - 2)
 }
 
-// Every internal height times a drawn factor. No height is above the root's, so that every product is finite where the root's is.
+// How TreeScale ends, no height being written yet: every internal height is to be multiplied by the factor of the ratio. No height is above the
+// root's, so that every product is finite where the root's is.
 fn tree_scale_turn(
     pairs: &[u16],
     parents: &[u16],
-    heights: &mut [f64],
+    heights: &[f64],
     root: usize,
     tuning: f64,
     s: Supply,
 ) -> Turn
-    ensures { λ r. ⌜ (Valid (nodesOf (now (pairs .entry))) (treeOf (now (pairs .entry)) (now (parents .entry)) (now (heights .entry)) root) → after r (now (pairs .entry)) (now (parents .entry)) (now (heights .exit)) ≡ turnOf (treeOf (now (pairs .entry)) (now (parents .entry)) (now (heights .entry)) root) s (run (Programs.treeScale tuning (treeOf (now (pairs .entry)) (now (parents .entry)) (now (heights .entry)) root)) s)) ⌝ }
+    ensures { λ r. ⌜ (Valid (nodesOf (now (pairs .entry))) (treeOf (now (pairs .entry)) (now (parents .entry)) (now (heights .entry)) root) → after r (now (pairs .entry)) (now (parents .entry)) (scaledTurn (r .turned) (now (heights .entry))) ≡ turnOf (treeOf (now (pairs .entry)) (now (parents .entry)) (now (heights .entry)) root) s (run (Programs.treeScale tuning (treeOf (now (pairs .entry)) (now (parents .entry)) (now (heights .entry)) root)) s)) ⌝ }
 {
     let u = s.uniform();
     let next = u.supply;
@@ -371,7 +373,6 @@ fn tree_scale_turn(
             let f = calls::scaler(tuning, u.value);
             if real::is_finite(heights[root] * f) {
                 let ratio = tree_scale_ratio(heights.len(), f);
-                scale_heights(heights, f);
                 return Turn {
                     turned: Turned::Moved(root, ratio),
                     supply: next,
@@ -390,17 +391,18 @@ fn tree_scale_turn(
     }
 }
 
-// TreeScale with a tuning from 1e-8 to 1, by at most `allowance` draws, the tree being left unvalidated.
-pub fn tree_scale_unvalidated(
+// What TreeScale answers with a tuning from 1e-8 to 1, by at most `allowance` draws, the tree being left unvalidated. The heights are as they came;
+// `scale_by` makes the move. A host's record is written between the two, so that it need not wait for the heights.
+pub fn tree_scale_answer(
     pairs: &[u16],
     parents: &[u16],
-    heights: &mut [f64],
+    heights: &[f64],
     root: usize,
     tuning: f64,
     random: Random,
     allowance: u32,
 ) -> Answered
-    ensures { λ r. ⌜ (Accepted (treeOf (now (pairs .entry)) (now (parents .entry)) (now (heights .entry)) root) → called (r .answer) (r .random) (now (pairs .entry)) (now (parents .entry)) (now (heights .exit)) ≡ moveCall (treeScale tuning) (treeOf (now (pairs .entry)) (now (parents .entry)) (now (heights .entry)) root) random allowance) ⌝ }
+    ensures { λ r. ⌜ (Accepted (treeOf (now (pairs .entry)) (now (parents .entry)) (now (heights .entry)) root) → called (r .answer) (r .random) (now (pairs .entry)) (now (parents .entry)) (scaledBy (r .answer) (now (heights .entry))) ≡ moveCall (treeScale tuning) (treeOf (now (pairs .entry)) (now (parents .entry)) (now (heights .entry)) root) random allowance) ⌝ }
 {
     let limits = calls::is_tuned(tuning);
     match calls::check_limits(limits, allowance) {
@@ -416,6 +418,45 @@ pub fn tree_scale_unvalidated(
             return calls::answer(turn, random, allowance);
         }
     }
+}
+
+// The heights after what TreeScale answered: every internal one times the factor of its power.
+pub fn scale_by(heights: &mut [f64], answer: Answer)
+    ensures { λ _. ⌜ now (heights .exit) ≡ scaledBy answer (now (heights .entry)) ⌝ }
+{
+    match answer {
+        Answer::Moved(m) => {
+            let ratio = m.ratio;
+            match ratio {
+                Ratio::Power(f, k) => {
+                    scale_heights(heights, f);
+                }
+                Ratio::Even => {}
+                Ratio::Counts(a, b) => {}
+                Ratio::Lengths(a, b) => {}
+            }
+        }
+        Answer::Declined(draws) => {}
+        Answer::Refused(why) => {}
+    }
+}
+
+// TreeScale with a tuning from 1e-8 to 1, by at most `allowance` draws, the tree being left unvalidated.
+pub fn tree_scale_unvalidated(
+    pairs: &[u16],
+    parents: &[u16],
+    heights: &mut [f64],
+    root: usize,
+    tuning: f64,
+    random: Random,
+    allowance: u32,
+) -> Answered
+    ensures { λ r. ⌜ (Accepted (treeOf (now (pairs .entry)) (now (parents .entry)) (now (heights .entry)) root) → called (r .answer) (r .random) (now (pairs .entry)) (now (parents .entry)) (now (heights .exit)) ≡ moveCall (treeScale tuning) (treeOf (now (pairs .entry)) (now (parents .entry)) (now (heights .entry)) root) random allowance) ⌝ }
+{
+    let answered = tree_scale_answer(pairs, parents, heights, root, tuning, random, allowance);
+    let answer = answered.answer;
+    scale_by(heights, answer);
+    answered
 }
 
 // TreeScale with a tuning from 1e-8 to 1, by at most `allowance` draws.

@@ -19,6 +19,7 @@ use Rattle.moves.specs.Programs as Programs
 use Rattle.moves.specs.Moves.{Move, subtreeSlide, rootScale, treeScale, limits, program, moveCall, startCall}
 use Rattle.slide.specs.declared.Started.{Started}
 use Rattle.slide.specs.Started.{startedOf}
+use Rattle.heights.specs.Given.{scaledBy}
 use Rattle.record.specs.declared.Given.{Given}
 use Rattle.record.specs.Record.{isRecord, isReady, noRecord, wordIn, generatorIn, allowanceIn, nodeIn, tuningIn, givenIn, written, replied, refusedReply, unready, proposed, answered}
 use Rattle.record.specs.AllowanceLaws.{limited-outside, call-word}
@@ -96,10 +97,12 @@ module _ (words : List ℕ) (b : Bool) (eb : b ≡ isReady words) (pairs parents
             → Accepted (treeIn pairs parents heights words) → left (written r after) ps qs hs ≡ exported (rootScale (tuningIn words)) pairs parents heights words
         root-scale-done e v = rw (← es) (move-done (rootScale s) e v)
 
+        -- the heights are scaled after the answer
         pub tree-scale-done : (Accepted (treeOf pairs parents heights (q .root))
-            → called (c .answer) (c .random) ps qs hs ≡ moveCall (treeScale s) (treeOf pairs parents heights (q .root)) (q .random) (q .allowance))
-            → Accepted (treeIn pairs parents heights words) → left (written r after) ps qs hs ≡ exported (treeScale (tuningIn words)) pairs parents heights words
-        tree-scale-done e v = rw (← es) (move-done (treeScale s) e v)
+            → called (c .answer) (c .random) ps qs (scaledBy (c .answer) heights) ≡ moveCall (treeScale s) (treeOf pairs parents heights (q .root)) (q .random) (q .allowance))
+            → hs ≡ scaledBy (c .answer) heights → Accepted (treeIn pairs parents heights words)
+            → left (written r after) ps qs hs ≡ exported (treeScale (tuningIn words)) pairs parents heights words
+        tree-scale-done e d v = rw (← es) (move-done (treeScale s) (λ a. rw d (e a)) v)
 
         pub slide-done : (k : ℕ) → k ≡ nodeIn words
             → (Accepted (treeOf pairs parents heights (q .root))

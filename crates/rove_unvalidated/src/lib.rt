@@ -205,7 +205,7 @@ pub extern "C" fn rove_tree_scale_unvalidated(
         let given = record::read(words);
         let random = given.random;
         let tuning = record::tuning(words);
-        let answered = heights::tree_scale_unvalidated(
+        let answered = heights::tree_scale_answer(
             pairs,
             parents,
             heights,
@@ -214,7 +214,10 @@ pub extern "C" fn rove_tree_scale_unvalidated(
             random,
             given.allowance,
         );
-        return record::put_answer(words, answered);
+        let answer = answered.answer;
+        let code = record::put_answer(words, answered);
+        heights::scale_by(heights, answer);
+        return code;
     }
     record::put_unready(words)
 }

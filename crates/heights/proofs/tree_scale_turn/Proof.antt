@@ -16,8 +16,8 @@ scaler-requires c κs = search (treeScaleLaws, needs)
 mul-is-finite : tie.Need-mul-is-finite
 mul-is-finite c = search (treeScaleLaws, needs)
 
-slice-read-is-finite : tie.Need-slice-read-is-finite
-slice-read-is-finite c = search (treeScaleLaws, needs)
+shared-slice-read-is-finite : tie.Need-shared-slice-read-is-finite
+shared-slice-read-is-finite c = search (treeScaleLaws, needs)
 
 is-finite-requires : tie.Need-is-finite-requires
 is-finite-requires c κs = search (treeScaleLaws, needs)
@@ -25,36 +25,17 @@ is-finite-requires c κs = search (treeScaleLaws, needs)
 tree-scale-ratio-requires : tie.Need-tree-scale-ratio-requires
 tree-scale-ratio-requires c κs = search (treeScaleLaws, needs)
 
-scale-heights-requires : tie.Need-scale-heights-requires
-scale-heights-requires c κs = search (treeScaleLaws, needs)
-
-same-length : tie.Need-same-length
-same-length c = search (treeScaleLaws, needs)
-
 returns : tie.Need-returns
 returns c = λ v. search (treeScaleLaws, needs)
 
 lowest-overflow-requires : tie.Need-lowest-overflow-requires
 lowest-overflow-requires c κs = search (treeScaleLaws, needs)
 
-same-length-2 : tie.Need-same-length-2
-same-length-2 c = search (treeScaleLaws, needs)
-
 returns-2 : tie.Need-returns-2
-returns-2 c = λ v. (
-    let i = c .before .before in
-    let b = i .before in
-    let f = b .before .before in
-    let w = f .before .before .before .before in
-    let u = w .before .before in
-    tree-not-finite _ _ _ _ _ _ (u .uniform .result) (u .uniform .ensures) v (w .if1 .taken) (f .scaler .result) (f .scaler .ensures) (b .is-finite .result)
-    (b .is-finite .ensures) (i .if3 .left) (c .lowest-overflow .result) (c .lowest-overflow .ensures))
+returns-2 c = λ v. search (treeScaleLaws, needs)
 
 stay-requires : tie.Need-stay-requires
 stay-requires c κs = search (treeScaleLaws, needs)
-
-same-length-3 : tie.Need-same-length-3
-same-length-3 c = search (treeScaleLaws, needs)
 
 returns-3 : tie.Need-returns-3
 returns-3 c = λ v. search (treeScaleLaws, needs)
@@ -70,16 +51,12 @@ tree-scale-turn-spec =
     is-scalable-requires
     scaler-requires
     mul-is-finite
-    slice-read-is-finite
+    shared-slice-read-is-finite
     is-finite-requires
     tree-scale-ratio-requires
-    scale-heights-requires
-    same-length
     returns
     lowest-overflow-requires
-    same-length-2
     returns-2
     stay-requires
-    same-length-3
     returns-3
     returns-4)

@@ -14,11 +14,14 @@ read-requires c κs = search needs
 tuning-requires : tie.Need-tuning-requires
 tuning-requires c κs = search needs
 
-tree-scale-unvalidated-requires : tie.Need-tree-scale-unvalidated-requires
-tree-scale-unvalidated-requires c κs = search needs
+tree-scale-answer-requires : tie.Need-tree-scale-answer-requires
+tree-scale-answer-requires c κs = search needs
 
 put-answer-requires : tie.Need-put-answer-requires
 put-answer-requires c κs = search (roomLaws, needs)
+
+scale-by-requires : tie.Need-scale-by-requires
+scale-by-requires c κs = search needs
 
 same-length : tie.Need-same-length
 same-length c = search needs
@@ -45,8 +48,9 @@ rove-tree-scale-unvalidated-spec =
     is-ready-requires
     read-requires
     tuning-requires
-    tree-scale-unvalidated-requires
+    tree-scale-answer-requires
     put-answer-requires
+    scale-by-requires
     same-length
     same-length-2
     returns
