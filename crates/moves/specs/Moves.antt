@@ -7,6 +7,7 @@ use Rattle.random.specs.declared.Random.{Random}
 use Rattle.random.specs.Draw.{Draw}
 use Rattle.tree.specs.Tree.{Tree}
 use Rattle.calls.specs.Call.{Reply, Outcome, Called, Ending, callOf, treeCall}
+use Rattle.calls.specs.Harmless.{Unvalidated}
 use Rattle.calls.specs.Draws.{tuned}
 use Rattle.moves.specs.Programs as Programs
 use Rattle.moves.specs.Programs.{slidable, Start}
@@ -39,6 +40,10 @@ program (treeScale s) t = Programs.treeScale s t
 -- the call of a move on the tree t, with a generator and an allowance
 abbrev pub moveCall : Move → Tree → Random → ℕ → Called
 moveCall m t g allowance = treeCall (limits m t) (program m t) t g allowance
+
+-- what an unvalidated call of a move leaves
+abbrev pub UnvalidatedCall : Move → Tree → Random → ℕ → Called → Type 0
+UnvalidatedCall m t g allowance c = Unvalidated (limits m t) (program m t) t g allowance c
 
 -- the first call of a slide
 abbrev pub startCall : Tree → Random → ℕ → Ending Start
