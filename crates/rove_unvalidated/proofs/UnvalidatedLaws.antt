@@ -36,7 +36,7 @@ module _ (words : List ℕ) (n : isReady words ≡ false) (pairs parents : List 
   over e within = limited-word words within ∙ limited-outside within (wordIn words 5) (rw e at n)
 
   unready-start : unready words ≡ unvalidatedStartExported pairs parents heights words
-  unfolding unready unvalidatedStartExported unvalidatedStart
+  unfolding unready unvalidatedStartExported
   unready-start = go (isRecord words) refl
     where
       go : (x : Bool) → isRecord words ≡ x → cond x (replied (refusedReply (Parameter 0)) words) (written noRecord words)
