@@ -1,6 +1,5 @@
 -- The ways through the choice of a move: what the move of a kind is known to leave is what the state's move leaves. Assumes nothing.
 use mathlib.Core.Path.{_≡_}
-use mathlib.Core.List.{List}
 use Prim.Native.Nat.{ℕ}
 use lib.Ieee.{Float}
 use Rattle.random.specs.declared.Random.{Random}

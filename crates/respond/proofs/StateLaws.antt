@@ -68,7 +68,7 @@ module _ (head : Head) (pairs parents ps : List ℕ) (heights : List Float) (eac
   -- a, us, vs and hs are what the move answered and left
   pub state-made : (root : ℕ) → r ≡ Roots.Root root → (g : Random) → g ≡ fromState (wordsOf (head .supplied .words)) → (a : Answered) (us vs : List ℕ) (hs : List Float)
       → UnvalidatedCall (moveOf (head .asked .kind) (head .asked .node) (head .asked .tuning)) (treeOf pairs ps heights root) g (head .supplied .draws)
-        (called (a .answer) (a .random) us vs hs)
+      (called (a .answer) (a .random) us vs hs)
       → d ≡ delivered out (answerText (a .answer) (a .random) us hs) → d ≡ delivered out (stateReply (stateOf head (nodes pairs heights)))
   unfolding treeReply
   state-made root y g eg a us vs hs f h =

@@ -5,15 +5,13 @@ use mathlib.Core.List.{List}
 use Prim.Native.Nat.{ℕ}
 use lib.Ieee.{Float}
 use Rattle.answer.specs.declared.Refusal.the-variants.{Parameter}
-use Rattle.random.specs.Draw.{allowed}
 use Rattle.tree.specs.declared.Verdict.the-variants as Verdicts
 use Rattle.tree.specs.Tree.{Tree}
 use Rattle.tree.specs.Given.{treeOf}
 use Rattle.calls.specs.declared.Answered.{Answered}
-use Rattle.calls.specs.Call.{Called, called, limited, runCall}
+use Rattle.calls.specs.Call.{called, limited}
 use Rattle.calls.specs.EntryLaws.{unvalidated-refused}
 use Rattle.calls.specs.Given.{turnedBack}
-use Rattle.moves.specs.Programs as Programs
 use Rattle.moves.specs.Moves.{Move, subtreeSlide, rootScale, treeScale, limits, program, UnvalidatedCall, unvalidatedStart}
 use Rattle.slide.specs.declared.Started.{Started}
 use Rattle.slide.specs.Started.{startedOf}
@@ -22,7 +20,7 @@ use Rattle.record.specs.declared.Given.{Given}
 use Rattle.record.specs.Record.{isRecord, isReady, noRecord, wordIn, generatorIn, allowanceIn, nodeIn, tuningIn, givenIn, written, replied, refusedReply, unready, proposed, answered}
 use Rattle.record.specs.AllowanceLaws.{limited-outside, limited-word}
 use Rattle.record.specs.RoomLaws.{ready-is}
-use Rattle.rove.specs.Exports.{left, moveLeft, treeIn, begunLeft}
+use Rattle.rove.specs.Exports.{left, treeIn, begunLeft}
 use Rattle.rove_unvalidated.specs.Unvalidated.{UnvalidatedExport, on-record, off-record, unvalidatedStartExported}
 
 -- ---- words that are not ready
