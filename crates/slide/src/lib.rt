@@ -1,7 +1,7 @@
 // SubtreeSlide of rove's mcmc/moves.rs, in two calls: the first draws a node and the two uniforms of the step, the second takes the node and the
 // step. Each has the call of its name, which refuses what is not in order, and an unvalidated one, which leaves the tree unchecked; all take
 // whatever is lent. What the unvalidated first call gives is promised on any slices. What the unvalidated second call and its turns make is promised
-// of a valid tree, and on any slices that it is harmless (Harmless of calls). Assumes nothing.
+// of a valid tree; on any slices they are harmless (calls/Harmless). Assumes nothing.
 ghost use mathlib.Core.Path.{_≡_};
 ghost use mathlib.Core.List.{[]};
 ghost use Rattle.random.specs.Draw.{run};
