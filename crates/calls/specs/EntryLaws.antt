@@ -1,7 +1,7 @@
 -- For the entry points of the moves. A checked one validates the tree and goes on as the unvalidated one of its name, which tests the limits,
 -- makes its turn and answers. In order: what a check that passed has passed (`passed`); a tree that was validated (`tree-refused`, and for tree
--- moves `entryLaws`); and an accepted tree, whose limits were tested (`accepted-checked`, `limits-refused`, `limits-passed`, and for tree moves
--- `unvalidatedLaws`). Assumes nothing.
+-- moves `entryLaws`); an accepted tree, whose limits were tested (`accepted-checked`, `limits-refused`, `limits-passed`); and for tree moves any slices,
+-- whose limits were tested (`unvalidatedLaws`). Assumes nothing.
 use mathlib.Core.Path.{_≡_, refl, sym, ap, _∙_}
 use mathlib.Core.Bool.{Bool, true, false, _&&_, cond, and-eq-true-iff}
 use mathlib.Core.List.{List}
@@ -23,7 +23,9 @@ use Rattle.accepted.specs.ValidatedLaws.{fine-valid, valid-fine}
 use Rattle.calls.specs.declared.Answered.{Answered}
 use Rattle.calls.specs.declared.Turn.{Turn}
 use Rattle.calls.specs.Call.{Reply, makes, notFinite, outside, Outcome, declined, moved, refused, ended, andThen, limited, checked, callOf, Called, called, leaves, treeCall}
-use Rattle.calls.specs.Given.{After, after, turnOf, turnedBack, answeredOf}
+use Rattle.calls.specs.Given.{after, turnOf, turnedBack, answeredOf}
+use Rattle.calls.specs.Harmless.{Unvalidated, Turning}
+use Rattle.calls.specs.HarmlessLaws.{answering, refused-harmless, turn-harmless}
 
 -- ---- a check that passed
 
@@ -67,10 +69,10 @@ module _ (pairs parents : List ℕ) (heights : List Float) (root : ℕ) (v : Ver
     unfolding treeCall leaves
     entry-refused why y r er = rw (er, tree-refused limits program g allowance why y)
 
-    -- and where it is fine, what the unvalidated call of an accepted tree leaves
-    pub entry-done : v ≡ Verdicts.Fine → (c : Called) → (Accepted (treeOf pairs parents heights root) → c ≡ treeCall limits program (treeOf pairs parents heights root) g allowance)
+    -- and where it is fine, what the unvalidated call leaves
+    pub entry-done : v ≡ Verdicts.Fine → (c : Called) → Unvalidated limits program (treeOf pairs parents heights root) g allowance c
         → c ≡ treeCall limits program (treeOf pairs parents heights root) g allowance
-    entry-done y c f = f (tree-accepted y)
+    entry-done y c u = u .decided (tree-accepted y)
 
 pub ruleset entryLaws = (entry-refused, entry-done)
 
@@ -97,12 +99,8 @@ module _ (t : Tree) (h : Accepted t) (limits : Bool) (allowance : ℕ) (v : Verd
 -- ---- a turn on the tree t, from the call's supply
 
 module _ (t : Tree) (g : Random) (allowance : ℕ) (turn : Turn) (pairs parents : List ℕ) (heights : List Float) where
-  -- the call, from what its turn leaves
-  answering : After → Called
-  answering a = let r = answeredOf (a .turned) (a .supply) g allowance in called (r .answer) (r .random) (a .pairs) (a .parents) (a .heights)
-
-  settled : (d : Drawn (Reply Outcome)) → answering (turnOf t (supplyOf g allowance) d) ≡ leaves t g (ended allowance d)
-  unfolding answering turnOf answeredOf leaves ended
+  settled : (d : Drawn (Reply Outcome)) → answering g allowance (turnOf t (supplyOf g allowance) d) ≡ leaves t g (ended allowance d)
+  unfolding turnOf answeredOf leaves ended
   settled spent = refl
   settled (got (notFinite k) u) = refl
   settled (got (outside k) u) = refl
@@ -113,33 +111,41 @@ module _ (t : Tree) (g : Random) (allowance : ℕ) (turn : Turn) (pairs parents 
   pub answered-run : (program : Draw (Reply Outcome)) → after turn pairs parents heights ≡ turnOf t (supplyOf g allowance) (run program (supplyOf g allowance))
       → (r : Answered) → r ≡ answeredOf (turn .turned) (turn .supply) g allowance
       → called (r .answer) (r .random) pairs parents heights ≡ leaves t g (ended allowance (run program (supplyOf g allowance)))
-  unfolding answering
-  answered-run program e r er = rw er (ap answering e ∙ settled (run program (supplyOf g allowance)))
+  answered-run program e r er = rw er (ap (answering g allowance) e ∙ settled (run program (supplyOf g allowance)))
 
 -- ---- the unvalidated call
 
 -- b is whether the parameters are within their limits, and v what was said of it
-module _ (pairs parents : List ℕ) (heights : List Float) (root : ℕ) (h : Accepted (treeOf pairs parents heights root)) (limits b : Bool) (eb : b ≡ limits)
-    (allowance : ℕ) (v : Verdict) (ev : v ≡ limited b allowance) (program : Draw (Reply Outcome)) (g : Random) where
+module _ (pairs parents : List ℕ) (heights : List Float) (root : ℕ) (limits b : Bool) (eb : b ≡ limits) (allowance : ℕ) (v : Verdict) (ev : v ≡ limited b allowance)
+    (program : Draw (Reply Outcome)) (g : Random) where
   abbrev lent : Tree
   lent = treeOf pairs parents heights root
 
   e : v ≡ limited limits allowance
   e = ev ∙ ap (λ (x : Bool). limited x allowance) eb
 
-  -- what is answered where the limits are refused is the call
+  -- what is answered where the limits are refused
   pub unvalidated-refused : (why : Refusal) → v ≡ Verdicts.Refused why → (r : Answered) → r ≡ turnedBack why g
-      → called (r .answer) (r .random) pairs parents heights ≡ treeCall limits program (treeOf pairs parents heights root) g allowance
+      → Unvalidated limits program (treeOf pairs parents heights root) g allowance (called (r .answer) (r .random) pairs parents heights)
   unfolding treeCall leaves
-  unvalidated-refused why y r er = rw (er, limits-refused lent h limits allowance v e program g why y)
+  unvalidated-refused why y r er =
+      record {
+        decided = λ h. rw (er, limits-refused lent h limits allowance v e program g why y);
+        harmless = rw er (refused-harmless limits lent g allowance v e why y);
+      }
 
-  -- and what is answered after the turn, which a valid tree gives
+  -- and what is answered after the turn
   pub unvalidated-done : v ≡ Verdicts.Fine → (turn : Turn) (ps qs : List ℕ) (hs : List Float)
-      → (Valid (nodesOf pairs) (treeOf pairs parents heights root) → after turn ps qs hs ≡ turnOf (treeOf pairs parents heights root) (supplyOf g allowance) (run program (supplyOf g allowance)))
+      → Turning (Valid (nodesOf pairs) (treeOf pairs parents heights root)) (turnOf (treeOf pairs parents heights root) (supplyOf g allowance) (run program (supplyOf g allowance)))
+      (treeOf pairs parents heights root) (supplyOf g allowance) (after turn ps qs hs)
       → (r : Answered) → r ≡ answeredOf (turn .turned) (turn .supply) g allowance
-      → called (r .answer) (r .random) ps qs hs ≡ treeCall limits program (treeOf pairs parents heights root) g allowance
+      → Unvalidated limits program (treeOf pairs parents heights root) g allowance (called (r .answer) (r .random) ps qs hs)
   unfolding treeCall
   unvalidated-done y turn ps qs hs f r er =
-      rw (limits-passed lent h limits allowance v e program g y) (answered-run lent g allowance turn ps qs hs program (f (accepted-valid lent h)) r er)
+      record {
+        decided = λ h.
+            rw (limits-passed lent h limits allowance v e program g y) (answered-run lent g allowance turn ps qs hs program (f .decided (accepted-valid lent h)) r er);
+        harmless = rw er (turn-harmless limits lent g allowance v e y (after turn ps qs hs) (f .mild));
+      }
 
 pub ruleset unvalidatedLaws = (unvalidated-refused, unvalidated-done)

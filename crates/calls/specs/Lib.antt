@@ -6,6 +6,8 @@ pub mod Change
 pub mod Draws
 pub mod Chosen
 pub mod Given
+pub mod Harmless
+pub mod HarmlessLaws
 pub mod EntryLaws
 pub mod RunLaws
 pub mod CallLaws

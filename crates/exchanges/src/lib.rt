@@ -1,17 +1,17 @@
 // WideExchange and NarrowExchange: two nodes of a lent tree change places, the port of the functions of the same names of rove's moves.rs. Each has
-// the call of its name, which refuses what is not in order, and an unvalidated one, which leaves the tree unchecked; both take whatever is lent.
-// Assumes nothing.
+// the call of its name, which refuses what is not in order, and an unvalidated one, which leaves the tree unchecked; both take whatever is lent. The
+// unvalidated one leaves of an accepted tree what the checked one leaves, and of any slices what is `Harmless` of calls. Assumes nothing.
 ghost use mathlib.Core.Path.{_≡_};
 ghost use Rattle.random.specs.Draw.{pick, run, drawnNumber};
 ghost use Rattle.tree.specs.Tree.{nodesOf};
-ghost use Rattle.tree.specs.New.{Accepted};
 ghost use Rattle.tree.specs.Valid.{Valid};
 ghost use Rattle.tree.specs.Given.{treeOf, datesIn, kinIn};
 ghost use Rattle.rules.specs.Rules.{grand, grands, narrowDeclines, wideDeclines};
 ghost use Rattle.calls.specs.Call.{called};
 ghost use Rattle.moves.specs.Programs as Programs;
-ghost use Rattle.moves.specs.Moves.{moveCall, narrowExchange, wideExchange};
+ghost use Rattle.moves.specs.Moves.{narrowExchange, wideExchange, moveCall, UnvalidatedCall};
 ghost use Rattle.calls.specs.Given.{after, turnOf};
+ghost use Rattle.calls.specs.Harmless.{Turning};
 ghost use Rattle.exchanges.specs.Given.{pairsIn, tallerIn, sideIn, uncleIn, narrowTurn, AtInner, Narrows};
 ghost use Rattle.moves.specs.Programs.{apart, grandparent, narrowUnder};
 use answer::Ratio;
@@ -80,7 +80,7 @@ fn wide_exchange_turn(
     root: usize,
     s: Supply,
 ) -> Turn
-    ensures { λ r. ⌜ (Valid (nodesOf (now (pairs .entry))) (treeOf (now (pairs .entry)) (now (parents .entry)) (now (heights .entry)) root) → after r (now (pairs .exit)) (now (parents .exit)) (now (heights .entry)) ≡ turnOf (treeOf (now (pairs .entry)) (now (parents .entry)) (now (heights .entry)) root) s (run (Programs.wideExchange (treeOf (now (pairs .entry)) (now (parents .entry)) (now (heights .entry)) root)) s)) ⌝ }
+    ensures { λ r. ⌜ Turning (Valid (nodesOf (now (pairs .entry))) (treeOf (now (pairs .entry)) (now (parents .entry)) (now (heights .entry)) root)) (turnOf (treeOf (now (pairs .entry)) (now (parents .entry)) (now (heights .entry)) root) s (run (Programs.wideExchange (treeOf (now (pairs .entry)) (now (parents .entry)) (now (heights .entry)) root)) s)) (treeOf (now (pairs .entry)) (now (parents .entry)) (now (heights .entry)) root) s (after r (now (pairs .exit)) (now (parents .exit)) (now (heights .entry))) ⌝ }
 {
     let n = pairs.len() / 2;
     let i = calls::non_root(s, n, root);
@@ -121,7 +121,7 @@ pub fn wide_exchange_unvalidated(
     random: Random,
     allowance: u32,
 ) -> Answered
-    ensures { λ r. ⌜ (Accepted (treeOf (now (pairs .entry)) (now (parents .entry)) (now (heights .entry)) root) → called (r .answer) (r .random) (now (pairs .exit)) (now (parents .exit)) (now (heights .entry)) ≡ moveCall wideExchange (treeOf (now (pairs .entry)) (now (parents .entry)) (now (heights .entry)) root) random allowance) ⌝ }
+    ensures { λ r. ⌜ UnvalidatedCall wideExchange (treeOf (now (pairs .entry)) (now (parents .entry)) (now (heights .entry)) root) random allowance (called (r .answer) (r .random) (now (pairs .exit)) (now (parents .exit)) (now (heights .entry))) ⌝ }
 {
     match calls::check_limits(true, allowance) {
         Verdict::Refused(why) => {
@@ -275,7 +275,7 @@ fn narrow(
     coin: bool,
     s: Supply,
 ) -> Turn
-    ensures { λ r. ⌜ (Narrows (nodesOf (now (pairs .entry))) (treeOf (now (pairs .entry)) (now (parents .entry)) (now (heights .entry)) root) g → after r (now (pairs .exit)) (now (parents .exit)) (now (heights .entry)) ≡ narrowTurn (nodesOf (now (pairs .entry))) (treeOf (now (pairs .entry)) (now (parents .entry)) (now (heights .entry)) root) g coin s) ⌝ }
+    ensures { λ r. ⌜ Turning (Narrows (nodesOf (now (pairs .entry))) (treeOf (now (pairs .entry)) (now (parents .entry)) (now (heights .entry)) root) g) (narrowTurn (nodesOf (now (pairs .entry))) (treeOf (now (pairs .entry)) (now (parents .entry)) (now (heights .entry)) root) g coin s) (treeOf (now (pairs .entry)) (now (parents .entry)) (now (heights .entry)) root) s (after r (now (pairs .exit)) (now (parents .exit)) (now (heights .entry))) ⌝ }
 {
     let n = pairs.len() / 2;
     let before = grands(pairs, n);
@@ -299,7 +299,7 @@ fn narrow_under(
     drawn: Supply,
     s: Supply,
 ) -> Turn
-    ensures { λ r. ⌜ (AtInner (nodesOf (now (pairs .entry))) (treeOf (now (pairs .entry)) (now (parents .entry)) (now (heights .entry)) root) g → after r (now (pairs .exit)) (now (parents .exit)) (now (heights .entry)) ≡ turnOf (treeOf (now (pairs .entry)) (now (parents .entry)) (now (heights .entry)) root) s (run (narrowUnder (nodesOf (now (pairs .entry))) (treeOf (now (pairs .entry)) (now (parents .entry)) (now (heights .entry)) root) g) drawn)) ⌝ }
+    ensures { λ r. ⌜ Turning (AtInner (nodesOf (now (pairs .entry))) (treeOf (now (pairs .entry)) (now (parents .entry)) (now (heights .entry)) root) g) (turnOf (treeOf (now (pairs .entry)) (now (parents .entry)) (now (heights .entry)) root) s (run (narrowUnder (nodesOf (now (pairs .entry))) (treeOf (now (pairs .entry)) (now (parents .entry)) (now (heights .entry)) root) g) drawn)) (treeOf (now (pairs .entry)) (now (parents .entry)) (now (heights .entry)) root) drawn (after r (now (pairs .exit)) (now (parents .exit)) (now (heights .entry))) ⌝ }
 {
     let n = pairs.len() / 2;
     if narrow_declines(pairs, heights, n, g) {
@@ -327,7 +327,7 @@ fn narrow_exchange_turn(
     root: usize,
     s: Supply,
 ) -> Turn
-    ensures { λ r. ⌜ (Valid (nodesOf (now (pairs .entry))) (treeOf (now (pairs .entry)) (now (parents .entry)) (now (heights .entry)) root) → after r (now (pairs .exit)) (now (parents .exit)) (now (heights .entry)) ≡ turnOf (treeOf (now (pairs .entry)) (now (parents .entry)) (now (heights .entry)) root) s (run (Programs.narrowExchange (treeOf (now (pairs .entry)) (now (parents .entry)) (now (heights .entry)) root)) s)) ⌝ }
+    ensures { λ r. ⌜ Turning (Valid (nodesOf (now (pairs .entry))) (treeOf (now (pairs .entry)) (now (parents .entry)) (now (heights .entry)) root)) (turnOf (treeOf (now (pairs .entry)) (now (parents .entry)) (now (heights .entry)) root) s (run (Programs.narrowExchange (treeOf (now (pairs .entry)) (now (parents .entry)) (now (heights .entry)) root)) s)) (treeOf (now (pairs .entry)) (now (parents .entry)) (now (heights .entry)) root) s (after r (now (pairs .exit)) (now (parents .exit)) (now (heights .entry))) ⌝ }
 {
     let n = pairs.len() / 2;
     if calls::is_one_internal(n) {
@@ -356,7 +356,7 @@ pub fn narrow_exchange_unvalidated(
     random: Random,
     allowance: u32,
 ) -> Answered
-    ensures { λ r. ⌜ (Accepted (treeOf (now (pairs .entry)) (now (parents .entry)) (now (heights .entry)) root) → called (r .answer) (r .random) (now (pairs .exit)) (now (parents .exit)) (now (heights .entry)) ≡ moveCall narrowExchange (treeOf (now (pairs .entry)) (now (parents .entry)) (now (heights .entry)) root) random allowance) ⌝ }
+    ensures { λ r. ⌜ UnvalidatedCall narrowExchange (treeOf (now (pairs .entry)) (now (parents .entry)) (now (heights .entry)) root) random allowance (called (r .answer) (r .random) (now (pairs .exit)) (now (parents .exit)) (now (heights .entry))) ⌝ }
 {
     match calls::check_limits(true, allowance) {
         Verdict::Refused(why) => {

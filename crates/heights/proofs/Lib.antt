@@ -1,5 +1,6 @@
 -- The laws that the proofs of heights share: one for each way through a function.
 mod RangeLaws
+mod MildLaws
 mod NodeHeightLaws
 mod RootScaleLaws
 mod TreeScaleLaws

@@ -32,7 +32,6 @@ use Rattle.random.specs.DrawLaws.{bind-got, bind-spent}
 use Rattle.tree.specs.Tree.{Tree, nodesOf, inner, height}
 use Rattle.tree.specs.declared.Verdict.{Verdict}
 use Rattle.tree.specs.declared.Verdict.the-variants as Verdicts
-use Rattle.tree.specs.New.{Accepted}
 use Rattle.tree.specs.Valid.{Valid}
 use Rattle.tree.specs.Given.{treeOf}
 use Rattle.tree.specs.PlaceLaws.{wide16}
@@ -42,10 +41,11 @@ use Rattle.calls.specs.declared.Answered.{Answered}
 use Rattle.calls.specs.declared.Turn.{Turn}
 use Rattle.calls.specs.declared.Turned.{Turned}
 use Rattle.calls.specs.declared.Turned.the-variants as Turns
-use Rattle.calls.specs.Call.{Reply, makes, notFinite, Outcome, moved, called, limited, treeCall}
+use Rattle.calls.specs.Call.{Reply, makes, notFinite, Outcome, moved, called, limited}
 use Rattle.calls.specs.Draws.{scaler, least}
 use Rattle.moves.specs.Programs.{overflows, treeScale}
 use Rattle.calls.specs.Given.{After, after, afterOn, turnOf, turnedBack, answeredOf}
+use Rattle.calls.specs.Harmless.{Unvalidated, Turning}
 use Rattle.calls.specs.EntryLaws.{unvalidated-refused, unvalidated-done}
 use Rattle.calls.specs.LeastLaws.{least-none, least-step, least-stop, least-some}
 use Rattle.heights.specs.Given.{heightsOf, scalable, scaledWith, scaledTurn, scaledBy}
@@ -251,21 +251,22 @@ settled (Turns.NotFinite k) s g allowance hs = refl
 settled (Turns.Outside k) s g allowance hs = refl
 
 -- as for any unvalidated call (calls/EntryLaws)
-module _ (pairs parents : List ℕ) (heights : List Float) (root : ℕ) (h : Accepted (treeOf pairs parents heights root)) (limits b : Bool) (eb : b ≡ limits)
-    (allowance : ℕ) (v : Verdict) (ev : v ≡ limited b allowance) (program : Draw (Reply Outcome)) (g : Random) where
+module _ (pairs parents : List ℕ) (heights : List Float) (root : ℕ) (limits b : Bool) (eb : b ≡ limits) (allowance : ℕ) (v : Verdict) (ev : v ≡ limited b allowance)
+    (program : Draw (Reply Outcome)) (g : Random) where
   pub scale-refused : (why : Refusal) → v ≡ Verdicts.Refused why → (r : Answered) → r ≡ turnedBack why g
-      → called (r .answer) (r .random) pairs parents (scaledBy (r .answer) heights) ≡ treeCall limits program (treeOf pairs parents heights root) g allowance
+      → Unvalidated limits program (treeOf pairs parents heights root) g allowance (called (r .answer) (r .random) pairs parents (scaledBy (r .answer) heights))
   scale-refused why y r er =
       let e : scaledBy (r .answer) heights ≡ heights = ap (λ (x : Answered). scaledBy (x .answer) heights) er in
-      rw e (unvalidated-refused pairs parents heights root h limits b eb allowance v ev program g why y r er)
+      rw e (unvalidated-refused pairs parents heights root limits b eb allowance v ev program g why y r er)
 
   pub scale-done : v ≡ Verdicts.Fine → (turn : Turn)
-      → (Valid (nodesOf pairs) (treeOf pairs parents heights root) → after turn pairs parents (scaledTurn (turn .turned) heights) ≡ turnOf (treeOf pairs parents heights root) (supplyOf g allowance) (run program (supplyOf g allowance)))
+      → Turning (Valid (nodesOf pairs) (treeOf pairs parents heights root)) (turnOf (treeOf pairs parents heights root) (supplyOf g allowance) (run program (supplyOf g allowance)))
+      (treeOf pairs parents heights root) (supplyOf g allowance) (after turn pairs parents (scaledTurn (turn .turned) heights))
       → (r : Answered) → r ≡ answeredOf (turn .turned) (turn .supply) g allowance
-      → called (r .answer) (r .random) pairs parents (scaledBy (r .answer) heights) ≡ treeCall limits program (treeOf pairs parents heights root) g allowance
+      → Unvalidated limits program (treeOf pairs parents heights root) g allowance (called (r .answer) (r .random) pairs parents (scaledBy (r .answer) heights))
   scale-done y turn f r er =
       let e : scaledBy (r .answer) heights ≡ scaledTurn (turn .turned) heights = ap (λ (x : Answered). scaledBy (x .answer) heights) er ∙ settled (turn .turned) (turn .supply) g allowance heights in
-      rw e (unvalidated-done pairs parents heights root h limits b eb allowance v ev program g y turn pairs parents (scaledTurn (turn .turned) heights) f r er)
+      rw e (unvalidated-done pairs parents heights root limits b eb allowance v ev program g y turn pairs parents (scaledTurn (turn .turned) heights) f r er)
 
 pub ruleset scaleAnswerLaws = (scale-refused, scale-done)
 

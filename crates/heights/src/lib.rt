@@ -6,7 +6,6 @@ ghost use lib.ListN.{length};
 ghost use lib.Dec.{T};
 ghost use Rattle.random.specs.Draw.{pick, run, drawnNumber};
 ghost use Rattle.tree.specs.Tree.{nodesOf};
-ghost use Rattle.tree.specs.New.{Accepted};
 ghost use Rattle.tree.specs.Valid.{Valid};
 ghost use Rattle.tree.specs.Given.{treeOf, kinIn};
 ghost use Rattle.rules.specs.Rules.{floor, scaledTo, treeScaleRatio};
@@ -14,8 +13,9 @@ ghost use Rattle.calls.specs.Call.{called};
 ghost use Rattle.moves.specs.Programs as Programs;
 ghost use Rattle.calls.specs.Draws.{least};
 ghost use Rattle.moves.specs.Programs.{overflows, nonRootInternal, placing};
-ghost use Rattle.moves.specs.Moves.{nodeHeight, rootScale, treeScale, moveCall};
+ghost use Rattle.moves.specs.Moves.{nodeHeight, rootScale, treeScale, moveCall, UnvalidatedCall};
 ghost use Rattle.calls.specs.Given.{after, turnOf};
+ghost use Rattle.calls.specs.Harmless.{Turning};
 ghost use Rattle.heights.specs.Given.{heightsOf, shaped, hasChildren, hasKin, scalable, stays, scaledTurn, scaledBy};
 use answer::Answer;
 use answer::Ratio;
@@ -155,7 +155,7 @@ fn node_height_turn(
     root: usize,
     s: Supply,
 ) -> Turn
-    ensures { λ r. ⌜ (Valid (nodesOf (now (pairs .entry))) (treeOf (now (pairs .entry)) (now (parents .entry)) (now (heights .entry)) root) → after r (now (pairs .entry)) (now (parents .entry)) (now (heights .exit)) ≡ turnOf (treeOf (now (pairs .entry)) (now (parents .entry)) (now (heights .entry)) root) s (run (Programs.nodeHeight (treeOf (now (pairs .entry)) (now (parents .entry)) (now (heights .entry)) root)) s)) ⌝ }
+    ensures { λ r. ⌜ Turning (Valid (nodesOf (now (pairs .entry))) (treeOf (now (pairs .entry)) (now (parents .entry)) (now (heights .entry)) root)) (turnOf (treeOf (now (pairs .entry)) (now (parents .entry)) (now (heights .entry)) root) s (run (Programs.nodeHeight (treeOf (now (pairs .entry)) (now (parents .entry)) (now (heights .entry)) root)) s)) (treeOf (now (pairs .entry)) (now (parents .entry)) (now (heights .entry)) root) s (after r (now (pairs .entry)) (now (parents .entry)) (now (heights .exit))) ⌝ }
 {
     let n = heights.len();
     if is_shaped(pairs, parents, n) {
@@ -187,7 +187,7 @@ pub fn node_height_unvalidated(
     random: Random,
     allowance: u32,
 ) -> Answered
-    ensures { λ r. ⌜ (Accepted (treeOf (now (pairs .entry)) (now (parents .entry)) (now (heights .entry)) root) → called (r .answer) (r .random) (now (pairs .entry)) (now (parents .entry)) (now (heights .exit)) ≡ moveCall nodeHeight (treeOf (now (pairs .entry)) (now (parents .entry)) (now (heights .entry)) root) random allowance) ⌝ }
+    ensures { λ r. ⌜ UnvalidatedCall nodeHeight (treeOf (now (pairs .entry)) (now (parents .entry)) (now (heights .entry)) root) random allowance (called (r .answer) (r .random) (now (pairs .entry)) (now (parents .entry)) (now (heights .exit))) ⌝ }
 {
     match calls::check_limits(true, allowance) {
         Verdict::Refused(why) => {
@@ -236,7 +236,7 @@ fn root_scale_turn(
     tuning: f64,
     s: Supply,
 ) -> Turn
-    ensures { λ r. ⌜ (Valid (nodesOf (now (pairs .entry))) (treeOf (now (pairs .entry)) (now (parents .entry)) (now (heights .entry)) root) → after r (now (pairs .entry)) (now (parents .entry)) (now (heights .exit)) ≡ turnOf (treeOf (now (pairs .entry)) (now (parents .entry)) (now (heights .entry)) root) s (run (Programs.rootScale tuning (treeOf (now (pairs .entry)) (now (parents .entry)) (now (heights .entry)) root)) s)) ⌝ }
+    ensures { λ r. ⌜ Turning (Valid (nodesOf (now (pairs .entry))) (treeOf (now (pairs .entry)) (now (parents .entry)) (now (heights .entry)) root)) (turnOf (treeOf (now (pairs .entry)) (now (parents .entry)) (now (heights .entry)) root) s (run (Programs.rootScale tuning (treeOf (now (pairs .entry)) (now (parents .entry)) (now (heights .entry)) root)) s)) (treeOf (now (pairs .entry)) (now (parents .entry)) (now (heights .entry)) root) s (after r (now (pairs .entry)) (now (parents .entry)) (now (heights .exit))) ⌝ }
 {
     let u = s.uniform();
     let next = u.supply;
@@ -277,7 +277,7 @@ pub fn root_scale_unvalidated(
     random: Random,
     allowance: u32,
 ) -> Answered
-    ensures { λ r. ⌜ (Accepted (treeOf (now (pairs .entry)) (now (parents .entry)) (now (heights .entry)) root) → called (r .answer) (r .random) (now (pairs .entry)) (now (parents .entry)) (now (heights .exit)) ≡ moveCall (rootScale tuning) (treeOf (now (pairs .entry)) (now (parents .entry)) (now (heights .entry)) root) random allowance) ⌝ }
+    ensures { λ r. ⌜ UnvalidatedCall (rootScale tuning) (treeOf (now (pairs .entry)) (now (parents .entry)) (now (heights .entry)) root) random allowance (called (r .answer) (r .random) (now (pairs .entry)) (now (parents .entry)) (now (heights .exit))) ⌝ }
 {
     let limits = calls::is_tuned(tuning);
     match calls::check_limits(limits, allowance) {
@@ -364,7 +364,7 @@ fn tree_scale_turn(
     tuning: f64,
     s: Supply,
 ) -> Turn
-    ensures { λ r. ⌜ (Valid (nodesOf (now (pairs .entry))) (treeOf (now (pairs .entry)) (now (parents .entry)) (now (heights .entry)) root) → after r (now (pairs .entry)) (now (parents .entry)) (scaledTurn (r .turned) (now (heights .entry))) ≡ turnOf (treeOf (now (pairs .entry)) (now (parents .entry)) (now (heights .entry)) root) s (run (Programs.treeScale tuning (treeOf (now (pairs .entry)) (now (parents .entry)) (now (heights .entry)) root)) s)) ⌝ }
+    ensures { λ r. ⌜ Turning (Valid (nodesOf (now (pairs .entry))) (treeOf (now (pairs .entry)) (now (parents .entry)) (now (heights .entry)) root)) (turnOf (treeOf (now (pairs .entry)) (now (parents .entry)) (now (heights .entry)) root) s (run (Programs.treeScale tuning (treeOf (now (pairs .entry)) (now (parents .entry)) (now (heights .entry)) root)) s)) (treeOf (now (pairs .entry)) (now (parents .entry)) (now (heights .entry)) root) s (after r (now (pairs .entry)) (now (parents .entry)) (scaledTurn (r .turned) (now (heights .entry)))) ⌝ }
 {
     let u = s.uniform();
     let next = u.supply;
@@ -402,7 +402,7 @@ pub fn tree_scale_answer(
     random: Random,
     allowance: u32,
 ) -> Answered
-    ensures { λ r. ⌜ (Accepted (treeOf (now (pairs .entry)) (now (parents .entry)) (now (heights .entry)) root) → called (r .answer) (r .random) (now (pairs .entry)) (now (parents .entry)) (scaledBy (r .answer) (now (heights .entry))) ≡ moveCall (treeScale tuning) (treeOf (now (pairs .entry)) (now (parents .entry)) (now (heights .entry)) root) random allowance) ⌝ }
+    ensures { λ r. ⌜ UnvalidatedCall (treeScale tuning) (treeOf (now (pairs .entry)) (now (parents .entry)) (now (heights .entry)) root) random allowance (called (r .answer) (r .random) (now (pairs .entry)) (now (parents .entry)) (scaledBy (r .answer) (now (heights .entry)))) ⌝ }
 {
     let limits = calls::is_tuned(tuning);
     match calls::check_limits(limits, allowance) {
@@ -451,7 +451,7 @@ pub fn tree_scale_unvalidated(
     random: Random,
     allowance: u32,
 ) -> Answered
-    ensures { λ r. ⌜ (Accepted (treeOf (now (pairs .entry)) (now (parents .entry)) (now (heights .entry)) root) → called (r .answer) (r .random) (now (pairs .entry)) (now (parents .entry)) (now (heights .exit)) ≡ moveCall (treeScale tuning) (treeOf (now (pairs .entry)) (now (parents .entry)) (now (heights .entry)) root) random allowance) ⌝ }
+    ensures { λ r. ⌜ UnvalidatedCall (treeScale tuning) (treeOf (now (pairs .entry)) (now (parents .entry)) (now (heights .entry)) root) random allowance (called (r .answer) (r .random) (now (pairs .entry)) (now (parents .entry)) (now (heights .exit))) ⌝ }
 {
     let answered = tree_scale_answer(pairs, parents, heights, root, tuning, random, allowance);
     let answer = answered.answer;

@@ -6,7 +6,8 @@ use lib.Ieee.{Float}
 use Rattle.random.specs.declared.Random.{Random}
 use Rattle.random.specs.Draw.{Draw}
 use Rattle.tree.specs.Tree.{Tree}
-use Rattle.calls.specs.Call.{Reply, Outcome, Called, Ending, callOf, treeCall}
+use Rattle.calls.specs.Call.{Reply, Outcome, Called, Ending, limited, runCall, callOf, treeCall}
+use Rattle.calls.specs.Harmless.{Unvalidated}
 use Rattle.calls.specs.Draws.{tuned}
 use Rattle.moves.specs.Programs as Programs
 use Rattle.moves.specs.Programs.{slidable, Start}
@@ -40,6 +41,14 @@ program (treeScale s) t = Programs.treeScale s t
 abbrev pub moveCall : Move → Tree → Random → ℕ → Called
 moveCall m t g allowance = treeCall (limits m t) (program m t) t g allowance
 
+-- what an unvalidated call of a move leaves
+abbrev pub UnvalidatedCall : Move → Tree → Random → ℕ → Called → Type 0
+UnvalidatedCall m t g allowance c = Unvalidated (limits m t) (program m t) t g allowance c
+
 -- the first call of a slide
 abbrev pub startCall : Tree → Random → ℕ → Ending Start
 startCall t g allowance = callOf true (Programs.slideStart t) t g allowance
+
+-- the same with its limits checked alone, which is what the unvalidated one is on any slices
+abbrev pub unvalidatedStart : Tree → Random → ℕ → Ending Start
+unvalidatedStart t g allowance = runCall (limited true allowance) (Programs.slideStart t) g allowance

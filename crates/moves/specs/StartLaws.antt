@@ -1,5 +1,6 @@
 -- What a slide's first call gives: a node that its second call may be given, and two uniforms (`started`), with as many draws as the generator is
--- stepped (calls/CallLaws `call-steps`); and that past its checks it gives these, or a 6 (`start-ends`). Assumes nothing.
+-- stepped (calls/CallLaws `call-steps`); that past its checks it gives these, or a 6 (`start-ends`); and that on an accepted tree it is the unvalidated
+-- one (`accepted-start`). Assumes nothing.
 use mathlib.Core.Path.{_≡_, refl}
 use mathlib.Core.Logic.{_⊎_, inl, inr}
 use mathlib.Core.Bool.{true}
@@ -18,9 +19,10 @@ use Rattle.accepted.specs.ValidatedLaws.{valid-fine}
 use Rattle.calls.specs.Call.{Reply, makes, refused, given, ended, checked, callOf}
 use Rattle.calls.specs.Draws.{nonRoot}
 use Rattle.moves.specs.Programs.{Start, slideStart}
-use Rattle.moves.specs.Moves.{startCall}
+use Rattle.moves.specs.Moves.{startCall, unvalidatedStart}
 use Rattle.calls.specs.YieldLaws.{NonRoot, non-root-yields}
 use Rattle.calls.specs.CallLaws.{call-given}
+use Rattle.calls.specs.EntryLaws.{accepted-checked}
 use Rattle.calls.specs.StepLaws.{number-yields}
 
 -- the node is not the root, and the uniforms are uniforms
@@ -64,3 +66,8 @@ start-ends t v g a k = rw (valid-fine (nodesOf (t .pairs)) t (accepted-valid t v
         made : (r : Reply Start) → Replied t r
             → ((s : Start) × (draws : ℕ) × (h : Random) × (ended a (got r u) ≡ given s draws h)) ⊎ (ended a (got r u) ≡ refused (Allowance a))
         made (makes s) (replied x) = inl (s, a - u .left, u .random, refl)
+
+-- on an accepted tree the limits are all that is left to check
+pub accepted-start : (t : Tree) → Accepted t → (g : Random) (a : ℕ) → unvalidatedStart t g a ≡ startCall t g a
+unfolding callOf
+accepted-start t h g a = rw (accepted-checked t h true a)

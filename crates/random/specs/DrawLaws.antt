@@ -23,11 +23,11 @@ unfolding after
 after-add zero k g = let e : k ≡ zero + k = omega arith in ap (λ (m : ℕ). after m g) e
 after-add (suc j) k g = let e : suc (j + k) ≡ suc j + k = omega arith in after-add j k (next g) ∙ ap (λ (m : ℕ). after m g) e
 
-stepped-refl : (s : Supply) → Stepped s s
+pub stepped-refl : (s : Supply) → Stepped s s
 unfolding after
 stepped-refl s = let e : 0 ≡ s .left - s .left = omega arith in record { fewer = omega arith; moved = ap (λ (m : ℕ). after m (s .random)) e }
 
-stepped-trans : {s t u : Supply} → Stepped s t → Stepped t u → Stepped s u
+pub stepped-trans : {s t u : Supply} → Stepped s t → Stepped t u → Stepped s u
 stepped-trans {s} {t} {u} p q =
     let e : s .left - t .left + (t .left - u .left) ≡ s .left - u .left = omega arith in record {
       fewer = omega arith;

@@ -1,6 +1,6 @@
 -- A record's allowance is read as 0 where its word is above 65,535. This shows that no call tells the two apart, so that the contracts of the exported
 -- functions can be read as if they spoke of the word itself. Assumes nothing.
-use mathlib.Core.Path.{_≡_, refl, ap}
+use mathlib.Core.Path.{_≡_, refl, sym, ap, _∙_}
 use mathlib.Core.Bool.{Bool, true, false, _&&_, cond}
 use mathlib.Core.List.{List}
 use Prim.Native.Nat.{ℕ}
@@ -50,6 +50,9 @@ module _ (words : List ℕ) where
           split : (b : Bool) → ltb 65535 w ≡ b → f (cond b 0 w) ≡ f w
           split true e = h 0 w refl (and-false (leb 1 w) (leb w 65535) (lt-leb w 65535 (ltb-true 65535 w e)))
           split false e = refl
+
+  pub limited-word : (limits : Bool) → limited limits (allowanceIn words) ≡ limited limits (wordIn words 5)
+  limited-word limits = same (limited limits) (λ a b p q. limited-outside limits a p ∙ sym (limited-outside limits b q))
 
   pub run-word : {A : Type 0} (v : Verdict) (limits : Bool) (program : Draw (Reply A)) (g : Random)
       → runCall (andThen v (limited limits (allowanceIn words))) program g (allowanceIn words)

@@ -12,12 +12,12 @@ use Rattle.random.specs.Generator.{fromState}
 use Rattle.tree.specs.declared.Rooted.{Rooted}
 use Rattle.tree.specs.declared.Rooted.the-variants as Roots
 use Rattle.tree.specs.Tree.{Tree, nodesOf}
-use Rattle.tree.specs.New.{New, refused, made, newTree, NewCall, newAnswered, newCall, Accepted}
+use Rattle.tree.specs.New.{New, refused, made, newTree, NewCall, newAnswered, newCall}
 use Rattle.tree.specs.Given.{treeOf, newGiven}
 use Rattle.accepted.specs.AcceptedLaws.{new-given}
 use Rattle.calls.specs.declared.Answered.{Answered}
 use Rattle.calls.specs.Call.{Called, called}
-use Rattle.moves.specs.Moves.{moveCall}
+use Rattle.moves.specs.Moves.{UnvalidatedCall}
 use Rattle.statefile.specs.declared.Head.{Head}
 use Rattle.statefile.specs.StateFile.{moveOf, stateOf, wordsOf}
 use Rattle.report.specs.Few.{Few}
@@ -67,14 +67,13 @@ module _ (head : Head) (pairs parents ps : List ℕ) (heights : List Float) (eac
 
   -- a, us, vs and hs are what the move answered and left
   pub state-made : (root : ℕ) → r ≡ Roots.Root root → (g : Random) → g ≡ fromState (wordsOf (head .supplied .words)) → (a : Answered) (us vs : List ℕ) (hs : List Float)
-      → (Accepted (treeOf pairs ps heights root)
-      → called (a .answer) (a .random) us vs hs
-      ≡ moveCall (moveOf (head .asked .kind) (head .asked .node) (head .asked .tuning)) (treeOf pairs ps heights root) g (head .supplied .draws))
+      → UnvalidatedCall (moveOf (head .asked .kind) (head .asked .node) (head .asked .tuning)) (treeOf pairs ps heights root) g (head .supplied .draws)
+      (called (a .answer) (a .random) us vs hs)
       → d ≡ delivered out (answerText (a .answer) (a .random) us hs) → d ≡ delivered out (stateReply (stateOf head (nodes pairs heights)))
   unfolding treeReply
   state-made root y g eg a us vs hs f h =
       let n : newTree pairs heights ≡ made (treeOf pairs ps heights root) = new-made pairs parents ps heights each r e root y in
-      let c = f n in
+      let c = f .decided n in
       rw (n, ← eg) (h ∙ ap (λ (x : Called). delivered out (calledText x)) c)
 
 pub ruleset stateLaws = (state-refused, state-made)

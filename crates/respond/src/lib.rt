@@ -2,10 +2,9 @@
 // a lent slice. Nothing else is written, and a refused file changes nothing. No public function has a `requires`. Assumes nothing.
 ghost use mathlib.Core.Path.{_≡_};
 ghost use lib.ListN.{length};
-ghost use Rattle.tree.specs.New.{Accepted};
 ghost use Rattle.tree.specs.Given.{treeOf};
 ghost use Rattle.calls.specs.Call.{called};
-ghost use Rattle.moves.specs.Moves.{moveCall};
+ghost use Rattle.moves.specs.Moves.{UnvalidatedCall};
 ghost use Rattle.random.specs.Generator.{fromState};
 ghost use Rattle.statefile.specs.StateFile.{moveOf, stateOf, wordsOf, stateFile};
 ghost use Rattle.report.specs.Report.{delivery, delivered};
@@ -41,7 +40,7 @@ fn make(
     random: Random,
     allowed: u32,
 ) -> Answered
-    ensures { λ r. ⌜ (Accepted (treeOf (now (pairs .entry)) (now (parents .entry)) (now (heights .entry)) root) → called (r .answer) (r .random) (now (pairs .exit)) (now (parents .exit)) (now (heights .exit)) ≡ moveCall (moveOf (asked .kind) (asked .node) (asked .tuning)) (treeOf (now (pairs .entry)) (now (parents .entry)) (now (heights .entry)) root) random allowed) ⌝ }
+    ensures { λ r. ⌜ UnvalidatedCall (moveOf (asked .kind) (asked .node) (asked .tuning)) (treeOf (now (pairs .entry)) (now (parents .entry)) (now (heights .entry)) root) random allowed (called (r .answer) (r .random) (now (pairs .exit)) (now (parents .exit)) (now (heights .exit))) ⌝ }
 {
     let k = asked.node;
     let x = asked.tuning;

@@ -1,11 +1,13 @@
-// The moves for a host whose tree was accepted and has since been changed by moves alone: as those of `rove`, with the same record and answer code, but the tree is not
-// validated again. Parameters and allowance are checked. Where the slices are an accepted tree, each leaves what the checked function leaves. On any other slices
-// it ends, reads and writes nothing outside them, and nothing else is promised. None has a `requires`. include/rove.h declares them for C. Assumes nothing.
+// The moves for a host whose tree was accepted and has since been changed by moves alone: as those of `rove`, with the same record and answer code, but the tree is
+// not validated again. Parameters and allowance are checked. Where the slices are an accepted tree, each leaves what the checked function leaves. What a move leaves
+// is accepted again, but for TreeScale on a tree with a tip that is not at zero: a tip may then stand above its parent, and a checked call or `rove_validate` comes
+// next. On any other slices each ends, reads and writes nothing outside them, and is harmless (calls/Harmless). None has a `requires`. include/rove.h declares them
+// for C. Assumes nothing.
 ghost use mathlib.Core.Path.{_≡_};
 ghost use Rattle.moves.specs.Moves.{nodeHeight, subtreeSlide, narrowExchange, wideExchange, wilsonBalding, rootScale, treeScale};
 ghost use Rattle.record.specs.Record.{written, nodeIn, tuningIn};
-ghost use Rattle.tree.specs.New.{Accepted};
-ghost use Rattle.rove.specs.Exports.{left, treeIn, exported, startExported};
+ghost use Rattle.rove.specs.Exports.{left};
+ghost use Rattle.rove_unvalidated.specs.Unvalidated.{UnvalidatedExport, unvalidatedStartExported};
 
 #[no_mangle]
 pub extern "C" fn rove_node_height_unvalidated(
@@ -14,7 +16,7 @@ pub extern "C" fn rove_node_height_unvalidated(
     parents: &[u16],
     heights: &mut [f64],
 ) -> u64
-    ensures { λ r. ⌜ (Accepted (treeIn (now (pairs .entry)) (now (parents .entry)) (now (heights .entry)) (now (words .entry))) → left (written r (now (words .exit))) (now (pairs .entry)) (now (parents .entry)) (now (heights .exit)) ≡ exported nodeHeight (now (pairs .entry)) (now (parents .entry)) (now (heights .entry)) (now (words .entry))) ⌝ }
+    ensures { λ r. ⌜ UnvalidatedExport nodeHeight (now (pairs .entry)) (now (parents .entry)) (now (heights .entry)) (now (words .entry)) (left (written r (now (words .exit))) (now (pairs .entry)) (now (parents .entry)) (now (heights .exit))) ⌝ }
 {
     if record::is_ready(words) {
         let given = record::read(words);
@@ -40,7 +42,7 @@ pub extern "C" fn rove_slide_start_unvalidated(
     parents: &[u16],
     heights: &[f64],
 ) -> u64
-    ensures { λ r. ⌜ (Accepted (treeIn (now (pairs .entry)) (now (parents .entry)) (now (heights .entry)) (now (words .entry))) → written r (now (words .exit)) ≡ startExported (now (pairs .entry)) (now (parents .entry)) (now (heights .entry)) (now (words .entry))) ⌝ }
+    ensures { λ r. ⌜ written r (now (words .exit)) ≡ unvalidatedStartExported (now (pairs .entry)) (now (parents .entry)) (now (heights .entry)) (now (words .entry)) ⌝ }
 {
     if record::is_ready(words) {
         let given = record::read(words);
@@ -66,7 +68,7 @@ pub extern "C" fn rove_subtree_slide_unvalidated(
     parents: &mut [u16],
     heights: &mut [f64],
 ) -> u64
-    ensures { λ r. ⌜ (Accepted (treeIn (now (pairs .entry)) (now (parents .entry)) (now (heights .entry)) (now (words .entry))) → left (written r (now (words .exit))) (now (pairs .exit)) (now (parents .exit)) (now (heights .exit)) ≡ exported (subtreeSlide (nodeIn (now (words .entry))) (tuningIn (now (words .entry)))) (now (pairs .entry)) (now (parents .entry)) (now (heights .entry)) (now (words .entry))) ⌝ }
+    ensures { λ r. ⌜ UnvalidatedExport (subtreeSlide (nodeIn (now (words .entry))) (tuningIn (now (words .entry)))) (now (pairs .entry)) (now (parents .entry)) (now (heights .entry)) (now (words .entry)) (left (written r (now (words .exit))) (now (pairs .exit)) (now (parents .exit)) (now (heights .exit))) ⌝ }
 {
     if record::is_ready(words) {
         let given = record::read(words);
@@ -95,7 +97,7 @@ pub extern "C" fn rove_narrow_exchange_unvalidated(
     parents: &mut [u16],
     heights: &[f64],
 ) -> u64
-    ensures { λ r. ⌜ (Accepted (treeIn (now (pairs .entry)) (now (parents .entry)) (now (heights .entry)) (now (words .entry))) → left (written r (now (words .exit))) (now (pairs .exit)) (now (parents .exit)) (now (heights .entry)) ≡ exported narrowExchange (now (pairs .entry)) (now (parents .entry)) (now (heights .entry)) (now (words .entry))) ⌝ }
+    ensures { λ r. ⌜ UnvalidatedExport narrowExchange (now (pairs .entry)) (now (parents .entry)) (now (heights .entry)) (now (words .entry)) (left (written r (now (words .exit))) (now (pairs .exit)) (now (parents .exit)) (now (heights .entry))) ⌝ }
 {
     if record::is_ready(words) {
         let given = record::read(words);
@@ -120,7 +122,7 @@ pub extern "C" fn rove_wide_exchange_unvalidated(
     parents: &mut [u16],
     heights: &[f64],
 ) -> u64
-    ensures { λ r. ⌜ (Accepted (treeIn (now (pairs .entry)) (now (parents .entry)) (now (heights .entry)) (now (words .entry))) → left (written r (now (words .exit))) (now (pairs .exit)) (now (parents .exit)) (now (heights .entry)) ≡ exported wideExchange (now (pairs .entry)) (now (parents .entry)) (now (heights .entry)) (now (words .entry))) ⌝ }
+    ensures { λ r. ⌜ UnvalidatedExport wideExchange (now (pairs .entry)) (now (parents .entry)) (now (heights .entry)) (now (words .entry)) (left (written r (now (words .exit))) (now (pairs .exit)) (now (parents .exit)) (now (heights .entry))) ⌝ }
 {
     if record::is_ready(words) {
         let given = record::read(words);
@@ -145,7 +147,7 @@ pub extern "C" fn rove_wilson_balding_unvalidated(
     parents: &mut [u16],
     heights: &mut [f64],
 ) -> u64
-    ensures { λ r. ⌜ (Accepted (treeIn (now (pairs .entry)) (now (parents .entry)) (now (heights .entry)) (now (words .entry))) → left (written r (now (words .exit))) (now (pairs .exit)) (now (parents .exit)) (now (heights .exit)) ≡ exported wilsonBalding (now (pairs .entry)) (now (parents .entry)) (now (heights .entry)) (now (words .entry))) ⌝ }
+    ensures { λ r. ⌜ UnvalidatedExport wilsonBalding (now (pairs .entry)) (now (parents .entry)) (now (heights .entry)) (now (words .entry)) (left (written r (now (words .exit))) (now (pairs .exit)) (now (parents .exit)) (now (heights .exit))) ⌝ }
 {
     if record::is_ready(words) {
         let given = record::read(words);
@@ -171,7 +173,7 @@ pub extern "C" fn rove_root_scale_unvalidated(
     parents: &[u16],
     heights: &mut [f64],
 ) -> u64
-    ensures { λ r. ⌜ (Accepted (treeIn (now (pairs .entry)) (now (parents .entry)) (now (heights .entry)) (now (words .entry))) → left (written r (now (words .exit))) (now (pairs .entry)) (now (parents .entry)) (now (heights .exit)) ≡ exported (rootScale (tuningIn (now (words .entry)))) (now (pairs .entry)) (now (parents .entry)) (now (heights .entry)) (now (words .entry))) ⌝ }
+    ensures { λ r. ⌜ UnvalidatedExport (rootScale (tuningIn (now (words .entry)))) (now (pairs .entry)) (now (parents .entry)) (now (heights .entry)) (now (words .entry)) (left (written r (now (words .exit))) (now (pairs .entry)) (now (parents .entry)) (now (heights .exit))) ⌝ }
 {
     if record::is_ready(words) {
         let given = record::read(words);
@@ -199,7 +201,7 @@ pub extern "C" fn rove_tree_scale_unvalidated(
     parents: &[u16],
     heights: &mut [f64],
 ) -> u64
-    ensures { λ r. ⌜ (Accepted (treeIn (now (pairs .entry)) (now (parents .entry)) (now (heights .entry)) (now (words .entry))) → left (written r (now (words .exit))) (now (pairs .entry)) (now (parents .entry)) (now (heights .exit)) ≡ exported (treeScale (tuningIn (now (words .entry)))) (now (pairs .entry)) (now (parents .entry)) (now (heights .entry)) (now (words .entry))) ⌝ }
+    ensures { λ r. ⌜ UnvalidatedExport (treeScale (tuningIn (now (words .entry)))) (now (pairs .entry)) (now (parents .entry)) (now (heights .entry)) (now (words .entry)) (left (written r (now (words .exit))) (now (pairs .entry)) (now (parents .entry)) (now (heights .exit))) ⌝ }
 {
     if record::is_ready(words) {
         let given = record::read(words);

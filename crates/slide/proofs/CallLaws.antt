@@ -10,22 +10,25 @@ use lib.ListN.{length}
 use lib.Ieee.{Float}
 use lib.Ieee.Scale.{finite}
 use Rattle.answer.specs.declared.Refusal.{Refusal}
+use Rattle.answer.specs.declared.Refusal.the-variants.{Parameter}
 use Rattle.random.specs.declared.Random.{Random}
 use Rattle.random.specs.Draw.{run, supplyOf}
 use Rattle.tree.specs.declared.Verdict.{Verdict}
 use Rattle.tree.specs.declared.Verdict.the-variants as Verdicts
 use Rattle.tree.specs.Tree.{Tree, nodesOf}
-use Rattle.tree.specs.New.{Accepted}
+use Rattle.tree.specs.Valid.{Valid}
 use Rattle.tree.specs.Given.{treeOf}
 use Rattle.tree.specs.ScanLaws.{neqb→ne}
-use Rattle.accepted.specs.AcceptedLaws.{accepted-valid}
+use Rattle.accepted.specs.AcceptedLaws.{accepted-valid, valid-accepted}
 use Rattle.calls.specs.declared.Answered.{Answered}
 use Rattle.calls.specs.declared.Turn.{Turn}
 use Rattle.calls.specs.Call.{limited, called}
 use Rattle.calls.specs.Given.{after, turnOf, turnedBack, answeredOf}
+use Rattle.calls.specs.Harmless.{Turning}
+use Rattle.calls.specs.HarmlessLaws.{back-harmless}
 use Rattle.moves.specs.Programs as Programs
 use Rattle.moves.specs.Programs.{slidable}
-use Rattle.moves.specs.Moves.{subtreeSlide, moveCall}
+use Rattle.moves.specs.Moves.{subtreeSlide, UnvalidatedCall}
 use Rattle.calls.specs.EntryLaws.{passed, accepted-checked, unvalidated-refused, unvalidated-done}
 use Rattle.slide.specs.Slide.{Slidable}
 
@@ -46,37 +49,36 @@ pub ruleset limitLaws = (limit-node, limit-root, limit-step)
 
 -- ---- the unvalidated call
 
--- no tree that is accepted has so many places
-pub call-large : (pairs parents : List ℕ) (heights : List Float) (root : ℕ) → Accepted (treeOf pairs parents heights root) → 8190 < length pairs → {A : Type 0} → A
-call-large pairs parents heights root h l = let z = accepted-valid (treeOf pairs parents heights root) h .sized in absurd (omega (arith, z .few, z .pairs))
-
--- limits is whether the parameters are within them, and v what was said of that
-module _ (pairs parents : List ℕ) (heights : List Float) (root i : ℕ) (step : Float) (h : Accepted (treeOf pairs parents heights root))
-    (limits : Bool) (el : limits ≡ slidable (treeOf pairs [] [] root) i step) (allowance : ℕ) (v : Verdict) (ev : v ≡ limited limits allowance) where
+-- its limits were passed: limits is whether the parameters are within them, and v what was said of that
+module _ (pairs parents : List ℕ) (heights : List Float) (root i : ℕ) (step : Float) (limits : Bool) (el : limits ≡ slidable (treeOf pairs [] [] root) i step)
+    (allowance : ℕ) (v : Verdict) (ev : v ≡ limited limits allowance) (y : v ≡ Verdicts.Fine) (g : Random) where
   abbrev t : Tree
   t = treeOf pairs parents heights root
 
-  pub call-refused : (why : Refusal) → v ≡ Verdicts.Refused why → (g : Random) (r : Answered) → r ≡ turnedBack why g
-      → called (r .answer) (r .random) pairs parents heights ≡ moveCall (subtreeSlide i step) t g allowance
-  call-refused why y g r er =
-      unvalidated-refused pairs parents heights root h (slidable t i step) limits el allowance v ev (Programs.subtreeSlide i step t) g why y r er
+  -- no tree that is accepted has so many places
+  pub call-large : 8190 < length pairs → (why : Refusal) (r : Answered) → r ≡ turnedBack why g
+      → UnvalidatedCall (subtreeSlide i step) t g allowance (called (r .answer) (r .random) pairs parents heights)
+  call-large l why r er =
+      record {
+        decided = λ h. let z = accepted-valid t h .sized in absurd (omega (arith, z .few, z .pairs));
+        harmless = rw er (back-harmless (slidable t i step) t g allowance why (λ f. let z : Verdicts.Fine ≡ Verdicts.Refused (Parameter 0) = sym y ∙ ev ∙ rw (el, f) in cc));
+      }
 
-  module _ (y : v ≡ Verdicts.Fine) where
-    slides : Slidable pairs parents heights root i
-    slides =
-        let c = passed limits t allowance (accepted-checked t h limits allowance ∙ sym ev ∙ y) in
-        let p = and-eq-true-iff (ltb i (nodesOf pairs) && not (eqb i root)) (finite step) .0 (sym el ∙ c .within) in
-        let q = and-eq-true-iff (ltb i (nodesOf pairs)) (not (eqb i root)) .0 (p .0) in
-        record { valid = accepted-valid t h; node = ltb-true i (nodesOf pairs) (q .0); under = neqb→ne i root (rw (q .1) tt) }
+  slides : Valid (nodesOf pairs) t → Slidable pairs parents heights root i
+  slides w =
+      let c = passed limits t allowance (accepted-checked t (valid-accepted (nodesOf pairs) t w) limits allowance ∙ sym ev ∙ y) in
+      let p = and-eq-true-iff (ltb i (nodesOf pairs) && not (eqb i root)) (finite step) .0 (sym el ∙ c .within) in
+      let q = and-eq-true-iff (ltb i (nodesOf pairs)) (not (eqb i root)) .0 (p .0) in
+      record { valid = w; node = ltb-true i (nodesOf pairs) (q .0); under = neqb→ne i root (rw (q .1) tt) }
 
-    -- pairs′, parents′ and heights′ are what the turn left
-    pub call-done : (g : Random) (turn : Turn) (pairs′ parents′ : List ℕ) (heights′ : List Float)
-        → (Slidable pairs parents heights root i
-        → after turn pairs′ parents′ heights′ ≡ turnOf t (supplyOf g allowance) (run (Programs.subtreeSlide i step t) (supplyOf g allowance)))
-        → (r : Answered) → r ≡ answeredOf (turn .turned) (turn .supply) g allowance
-        → called (r .answer) (r .random) pairs′ parents′ heights′ ≡ moveCall (subtreeSlide i step) t g allowance
-    call-done g turn pairs′ parents′ heights′ e r er =
-        unvalidated-done pairs parents heights root h (slidable t i step) limits el allowance v ev (Programs.subtreeSlide i step t) g y turn pairs′ parents′ heights′
-        (λ _. e slides) r er
+  -- pairs′, parents′ and heights′ are what the turn left
+  pub call-done : (turn : Turn) (pairs′ parents′ : List ℕ) (heights′ : List Float)
+      → Turning (Slidable pairs parents heights root i) (turnOf t (supplyOf g allowance) (run (Programs.subtreeSlide i step t) (supplyOf g allowance))) t (supplyOf g allowance)
+      (after turn pairs′ parents′ heights′)
+      → (r : Answered) → r ≡ answeredOf (turn .turned) (turn .supply) g allowance
+      → UnvalidatedCall (subtreeSlide i step) t g allowance (called (r .answer) (r .random) pairs′ parents′ heights′)
+  call-done turn pairs′ parents′ heights′ e r er =
+      unvalidated-done pairs parents heights root (slidable t i step) limits el allowance v ev (Programs.subtreeSlide i step t) g y turn pairs′ parents′ heights′
+      (record { decided = λ w. e .decided (slides w); mild = e .mild }) r er
 
-pub ruleset callLaws = (call-refused, call-done)
+pub ruleset callLaws = (unvalidated-refused, call-large, call-done)

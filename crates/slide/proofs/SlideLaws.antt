@@ -31,9 +31,10 @@ use Rattle.branches.specs.Walk.{counted, picked}
 use Rattle.branches.specs.WalkLaws.{counted-is, picked-is, picked-branch, counted-bare, picked-bare, climb-bare}
 use Rattle.calls.specs.declared.Turned.the-variants as Turns
 use Rattle.calls.specs.Given.{After, afterOn, turnOf}
+use Rattle.calls.specs.Harmless.{Turning, overflows}
 use Rattle.moves.specs.Programs.{subtreeSlide, slideAt}
 use Rattle.grafts.specs.Given.{Regrafts}
-use Rattle.slide.specs.Slide.{Slidable, Goes, Lowers}
+use Rattle.slide.specs.Slide.{Slidable, Goes, GoesUp, GoesDown, Lowers}
 use Rattle.slide.specs.UpLaws.{up-grafts, up-valid, up-not-below}
 use Rattle.slide.specs.DownLaws.{down-apart}
 use Rattle.slide.proofs.RunLaws.{runs-up, runs-above, runs-level, runs-none, runs-spent, runs-under, kept, lifted, lowered}
@@ -238,8 +239,8 @@ module _ (pairs parents : List ℕ) (heights : List Float) (root i : ℕ) where
         is-other = rw (et, is-sibling)
 
         -- a is what is left of the slide past the sibling
-        pub down-past : lt x other ≡ true → (s : Supply) (a : After) → (Lowers pairs parents heights root i k x → a ≡ slid x s) → a ≡ slid x s
-        down-past b s a e = e (record { goes = g; over = not-above; beside = is-sibling; past = rw is-other at b })
+        pub down-past : lt x other ≡ true → (s : Supply) (a : After) → Turning (Lowers pairs parents heights root i k x) (slid x s) t s a → a ≡ slid x s
+        down-past b s a e = e .decided (record { goes = g; over = not-above; beside = is-sibling; past = rw is-other at b })
 
         pub down-stays : lt x other ≡ false → (h : List Float) → h ≡ set heights p x → (s : Supply)
             → record { turned = Turns.Moved root Even; supply = s; pairs = pairs; parents = parents; heights = h } ≡ slid x s
@@ -252,8 +253,7 @@ module _ (pairs parents : List ℕ) (heights : List Float) (root i : ℕ) where
   -- ---- the turn
 
   -- old is p's height, and b whether the new one is finite
-  module _ (step : Float) (g : Slidable pairs parents heights root i) (p : ℕ) (ep : p ≡ getD parents i 0) (old : Float) (eo : old ≡ getD heights p nan)
-      (b : Bool) (eb : b ≡ finite (add binary64 old step)) where
+  module _ (step : Float) (p : ℕ) (ep : p ≡ getD parents i 0) (old : Float) (eo : old ≡ getD heights p nan) (b : Bool) (eb : b ≡ finite (add binary64 old step)) where
     is-parent : p ≡ parent t i
     unfolding parent
     is-parent = ep
@@ -265,10 +265,9 @@ module _ (pairs parents : List ℕ) (heights : List Float) (root i : ℕ) where
     before : old ≡ height t (parent t i)
     before = is-height ∙ ap (height t) is-parent
 
-    pub turn-not-finite : b ≡ false → (s : Supply)
-        → record { turned = Turns.NotFinite p; supply = s; pairs = pairs; parents = parents; heights = heights } ≡ turned step s
+    pub turn-not-finite : b ≡ false → (s : Supply) → Turning (Slidable pairs parents heights root i) (turned step s) t s (afterOn (Turns.NotFinite p) s t)
     unfolding subtreeSlide turnOf run
-    turn-not-finite h s = rw (← before, ← eb, h, ← is-parent)
+    turn-not-finite h s = record { decided = λ _. rw (← before, ← eb, h, ← is-parent); mild = overflows p s }
 
     -- past the test it is the slide to the new height
     module _ (h : b ≡ true) where
@@ -276,17 +275,18 @@ module _ (pairs parents : List ℕ) (heights : List Float) (root i : ℕ) where
       unfolding subtreeSlide slideAt
       is-slide s = rw (← before, ← eb, h)
 
-      goes : (up : Bool) → lt old (add binary64 old step) ≡ up → Goes up pairs parents heights root i (add binary64 old step)
-      goes up w = record { slides = g; number = sym eb ∙ h; way = rw (← before) w }
+      goes : Slidable pairs parents heights root i → (up : Bool) → lt old (add binary64 old step) ≡ up → Goes up pairs parents heights root i (add binary64 old step)
+      goes g up w = record { slides = g; number = sym eb ∙ h; way = rw (← before) w }
 
       -- a is what it left
       pub turn-up : lt old (add binary64 old step) ≡ true → (s : Supply) (a : After)
-          → (Goes true pairs parents heights root i (add binary64 old step) → p ≡ parent t i → old ≡ height t p → a ≡ slid (add binary64 old step) s)
-          → a ≡ turned step s
-      turn-up w s a e = rw (is-slide s) (e (goes true w) is-parent is-height)
+          → Turning (GoesUp pairs parents heights root i p old (add binary64 old step)) (slid (add binary64 old step) s) t s a
+          → Turning (Slidable pairs parents heights root i) (turned step s) t s a
+      turn-up w s a e = record { decided = λ g. rw (is-slide s) (e .decided (record { goes = goes g true w; above = is-parent; from = is-height })); mild = e .mild }
 
       pub turn-down : lt old (add binary64 old step) ≡ false → (s : Supply) (a : After)
-          → (Goes false pairs parents heights root i (add binary64 old step) → p ≡ parent t i → a ≡ slid (add binary64 old step) s) → a ≡ turned step s
-      turn-down w s a e = rw (is-slide s) (e (goes false w) is-parent)
+          → Turning (GoesDown pairs parents heights root i p (add binary64 old step)) (slid (add binary64 old step) s) t s a
+          → Turning (Slidable pairs parents heights root i) (turned step s) t s a
+      turn-down w s a e = record { decided = λ g. rw (is-slide s) (e .decided (record { goes = goes g false w; above = is-parent })); mild = e .mild }
 
 pub ruleset turnLaws = (turn-not-finite, turn-up, turn-down)

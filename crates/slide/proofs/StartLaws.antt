@@ -18,13 +18,14 @@ use Rattle.random.specs.SupplyLaws.{number-got, number-spent, real-got, real-sp
 use Rattle.tree.specs.declared.Verdict.{Verdict}
 use Rattle.tree.specs.declared.Verdict.the-variants as Verdicts
 use Rattle.tree.specs.Tree.{Tree, nodesOf}
-use Rattle.tree.specs.New.{Accepted, validated}
+use Rattle.tree.specs.New.{validated}
 use Rattle.tree.specs.Given.{treeOf}
-use Rattle.calls.specs.Call.{Reply, makes, notFinite, outside, refused, ended, limited}
+use Rattle.calls.specs.Call.{Reply, makes, notFinite, outside, refused, ended, limited, runCall}
 use Rattle.calls.specs.Draws.{nonRoot}
-use Rattle.calls.specs.EntryLaws.{tree-refused, tree-accepted, limits-refused, limits-passed}
+use Rattle.calls.specs.EntryLaws.{tree-refused, tree-accepted}
 use Rattle.moves.specs.Programs.{Start, slideStart}
-use Rattle.moves.specs.Moves.{startCall}
+use Rattle.moves.specs.Moves.{startCall, unvalidatedStart}
+use Rattle.moves.specs.StartLaws.{accepted-start}
 use Rattle.slide.specs.declared.Begun.the-variants as Begun
 use Rattle.slide.specs.declared.Started.{Started}
 use Rattle.slide.specs.declared.DrawnStart.{DrawnStart}
@@ -103,13 +104,16 @@ module _ (s : Supply) (r : DrawnStart) where
   start-spent t (got (makes a) u) f e h = absurd (true≢false (sym (ap (λ (d : DrawnStart). d .ok) e) ∙ h))
 
 -- v is what was said of the limits
-module _ (pairs parents : List ℕ) (heights : List Float) (root : ℕ) (h : Accepted (treeOf pairs parents heights root)) (g : Random) (allowance : ℕ)
-    (v : Verdict) (ev : v ≡ limited true allowance) where
+module _ (pairs parents : List ℕ) (heights : List Float) (root : ℕ) (g : Random) (allowance : ℕ) (v : Verdict) (ev : v ≡ limited true allowance) where
   abbrev t : Tree
   t = treeOf pairs parents heights root
 
-  pub start-refused : (why : Refusal) → v ≡ Verdicts.Refused why → (r : Started) → r ≡ startedOf g (refused why) → r ≡ startedOf g (startCall t g allowance)
-  start-refused why y r er = rw (limits-refused t h true allowance v ev (slideStart t) g why y) er
+  -- it is what that makes of the program
+  is-start : runCall v (slideStart t) g allowance ≡ unvalidatedStart t g allowance
+  is-start = ap (λ (w : Verdict). runCall w (slideStart t) g allowance) ev
+
+  pub start-refused : (why : Refusal) → v ≡ Verdicts.Refused why → (r : Started) → r ≡ startedOf g (refused why) → r ≡ startedOf g (unvalidatedStart t g allowance)
+  start-refused why y r er = rw (← is-start, y) er
 
   -- d is what was drawn
   module _ (y : v ≡ Verdicts.Fine) (d : DrawnStart) (ed : d ≡ drawnStart (supplyOf g allowance) (run (slideStart (treeOf pairs [] [] root)) (supplyOf g allowance))) where
@@ -118,20 +122,15 @@ module _ (pairs parents : List ℕ) (heights : List Float) (root : ℕ) (h : Acc
     unfolding slideStart
     bare-start = refl
 
-    pub start-out : d .ok ≡ false → (r : Started) → r ≡ startedOf g (refused (Allowance allowance)) → r ≡ startedOf g (startCall t g allowance)
+    pub start-out : d .ok ≡ false → (r : Started) → r ≡ startedOf g (refused (Allowance allowance)) → r ≡ startedOf g (unvalidatedStart t g allowance)
     unfolding ended
-    start-out f r er =
-        rw (
-          limits-passed t h true allowance v ev (slideStart t) g y,
-          ← bare-start,
-          start-spent (supplyOf g allowance) d (treeOf pairs [] [] root) _ refl ed f,
-        ) er
+    start-out f r er = rw (← is-start, y, ← bare-start, start-spent (supplyOf g allowance) d (treeOf pairs [] [] root) _ refl ed f) er
 
     pub start-drawn : d .ok ≡ true
         → record { answer = Begun.Node (record { node = d .node; first = d .first; second = d .second; draws = allowance - d .supply .left }); random = d .supply .random }
-        ≡ startedOf g (startCall t g allowance)
+        ≡ startedOf g (unvalidatedStart t g allowance)
     unfolding ended
-    start-drawn f = rw (limits-passed t h true allowance v ev (slideStart t) g y, ← bare-start, start-got (supplyOf g allowance) d _ ed f)
+    start-drawn f = rw (← is-start, y, ← bare-start, start-got (supplyOf g allowance) d _ ed f)
 
 -- what the difference in it asks
 pub start-left : (pairs : List ℕ) (root : ℕ) (g : Random) (allowance : ℕ) (d : DrawnStart)
@@ -150,9 +149,8 @@ module _ (pairs parents : List ℕ) (heights : List Float) (root : ℕ) (v : Ver
       → r ≡ startedOf g (startCall (treeOf pairs parents heights root) g allowance)
   start-no-tree why y r er = rw (tree-refused pairs parents heights root v ev true (slideStart (treeOf pairs parents heights root)) g allowance why y) er
 
-  pub start-done : v ≡ Verdicts.Fine → (r : Started)
-      → (Accepted (treeOf pairs parents heights root) → r ≡ startedOf g (startCall (treeOf pairs parents heights root) g allowance))
+  pub start-done : v ≡ Verdicts.Fine → (r : Started) → r ≡ startedOf g (unvalidatedStart (treeOf pairs parents heights root) g allowance)
       → r ≡ startedOf g (startCall (treeOf pairs parents heights root) g allowance)
-  start-done y r e = e (tree-accepted pairs parents heights root v ev y)
+  start-done y r e = e ∙ ap (startedOf g) (accepted-start (treeOf pairs parents heights root) (tree-accepted pairs parents heights root v ev y) g allowance)
 
 pub ruleset startCallLaws = (start-no-tree, start-done)

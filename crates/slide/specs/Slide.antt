@@ -6,7 +6,7 @@ use mathlib.Core.List.{List}
 use Prim.Native.Nat.{ℕ, _<_}
 use lib.Ieee.{Float, lt}
 use lib.Ieee.Scale.{finite}
-use Rattle.tree.specs.Tree.{nodesOf, height, sibling}
+use Rattle.tree.specs.Tree.{nodesOf, parent, height, sibling}
 use Rattle.tree.specs.Valid.{Valid}
 use Rattle.tree.specs.Given.{treeOf}
 use Rattle.rules.specs.Rules.{rises}
@@ -23,6 +23,17 @@ pub record Goes (up : Bool) (pairs parents : List ℕ) (heights : List Float) (r
   pub slides : Slidable pairs parents heights root i
   pub number : finite x ≡ true
   pub way : rises (treeOf pairs parents heights root) i x ≡ up
+
+-- it is above the old one; p is P, and old its old height
+pub record GoesUp (pairs parents : List ℕ) (heights : List Float) (root i p : ℕ) (old x : Float) : Type 0 where
+  pub goes : Goes true pairs parents heights root i x
+  pub above : p ≡ parent (treeOf pairs parents heights root) i
+  pub from : old ≡ height (treeOf pairs parents heights root) p
+
+-- it is not above the old one; p is P
+pub record GoesDown (pairs parents : List ℕ) (heights : List Float) (root i p : ℕ) (x : Float) : Type 0 where
+  pub goes : Goes false pairs parents heights root i x
+  pub above : p ≡ parent (treeOf pairs parents heights root) i
 
 -- it is not above the old one, not below i and below the sibling k
 pub record Lowers (pairs parents : List ℕ) (heights : List Float) (root i k : ℕ) (x : Float) : Type 0 where

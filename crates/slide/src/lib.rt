@@ -1,20 +1,19 @@
 // SubtreeSlide of rove's mcmc/moves.rs, in two calls: the first draws a node and the two uniforms of the step, the second takes the node and the
 // step. Each has the call of its name, which refuses what is not in order, and an unvalidated one, which leaves the tree unchecked; all take
-// whatever is lent. What their parts promise is promised of a valid tree. Assumes nothing.
+// whatever is lent. What the unvalidated first call gives is promised on any slices. What the unvalidated second call and its turns make is promised
+// of a valid tree; on any slices they are harmless (calls/Harmless). Assumes nothing.
 ghost use mathlib.Core.Path.{_≡_};
-ghost use mathlib.Core.Bool.{true, false};
 ghost use mathlib.Core.List.{[]};
 ghost use Rattle.random.specs.Draw.{run};
-ghost use Rattle.tree.specs.Tree.{parent, height};
-ghost use Rattle.tree.specs.New.{Accepted};
 ghost use Rattle.tree.specs.Given.{treeOf};
 ghost use Rattle.moves.specs.Programs as Programs;
 ghost use Rattle.moves.specs.Programs.{slideStart, slidable, slideAt};
 ghost use Rattle.calls.specs.Call.{refused, called};
-ghost use Rattle.moves.specs.Moves.{startCall, moveCall, subtreeSlide};
+ghost use Rattle.moves.specs.Moves.{startCall, unvalidatedStart, moveCall, UnvalidatedCall, subtreeSlide};
 ghost use Rattle.calls.specs.Given.{after, turnOf};
+ghost use Rattle.calls.specs.Harmless.{Turning};
 ghost use Rattle.slide.specs.Started.{startedOf, spentStart, drawnStart};
-ghost use Rattle.slide.specs.Slide.{Slidable, Goes, Lowers};
+ghost use Rattle.slide.specs.Slide.{Slidable, GoesUp, GoesDown, Lowers};
 use answer::Ratio;
 use answer::Refusal;
 use calls::Answered;
@@ -104,7 +103,7 @@ pub fn slide_start_unvalidated(
     random: Random,
     allowance: u32,
 ) -> Started
-    ensures { λ r. ⌜ (Accepted (treeOf (now (pairs .entry)) (now (parents .entry)) (now (heights .entry)) root) → r ≡ startedOf random (startCall (treeOf (now (pairs .entry)) (now (parents .entry)) (now (heights .entry)) root) random allowance)) ⌝ }
+    ensures { λ r. ⌜ r ≡ startedOf random (unvalidatedStart (treeOf (now (pairs .entry)) (now (parents .entry)) (now (heights .entry)) root) random allowance) ⌝ }
 {
     match calls::check_limits(true, allowance) {
         Verdict::Fine => {
@@ -177,7 +176,7 @@ fn slide_up(
     x: f64,
     s: Supply,
 ) -> Turn
-    ensures { λ r. ⌜ (Goes true (now (pairs .entry)) (now (parents .entry)) (now (heights .entry)) root node x → p ≡ parent (treeOf (now (pairs .entry)) (now (parents .entry)) (now (heights .entry)) root) node → old ≡ height (treeOf (now (pairs .entry)) (now (parents .entry)) (now (heights .entry)) root) p → after r (now (pairs .exit)) (now (parents .exit)) (now (heights .exit)) ≡ turnOf (treeOf (now (pairs .entry)) (now (parents .entry)) (now (heights .entry)) root) s (run (slideAt node x (treeOf (now (pairs .entry)) (now (parents .entry)) (now (heights .entry)) root)) s)) ⌝ }
+    ensures { λ r. ⌜ Turning (GoesUp (now (pairs .entry)) (now (parents .entry)) (now (heights .entry)) root node p old x) (turnOf (treeOf (now (pairs .entry)) (now (parents .entry)) (now (heights .entry)) root) s (run (slideAt node x (treeOf (now (pairs .entry)) (now (parents .entry)) (now (heights .entry)) root)) s)) (treeOf (now (pairs .entry)) (now (parents .entry)) (now (heights .entry)) root) s (after r (now (pairs .exit)) (now (parents .exit)) (now (heights .exit))) ⌝ }
 {
     let to = branches::climb(parents, heights, root, x, p, pairs.len() / 2);
     if to == p {
@@ -206,7 +205,7 @@ fn slide_under(
     x: f64,
     s: Supply,
 ) -> Turn
-    ensures { λ r. ⌜ (Lowers (now (pairs .entry)) (now (parents .entry)) (now (heights .entry)) root node sibling x → after r (now (pairs .exit)) (now (parents .exit)) (now (heights .exit)) ≡ turnOf (treeOf (now (pairs .entry)) (now (parents .entry)) (now (heights .entry)) root) s (run (slideAt node x (treeOf (now (pairs .entry)) (now (parents .entry)) (now (heights .entry)) root)) s)) ⌝ }
+    ensures { λ r. ⌜ Turning (Lowers (now (pairs .entry)) (now (parents .entry)) (now (heights .entry)) root node sibling x) (turnOf (treeOf (now (pairs .entry)) (now (parents .entry)) (now (heights .entry)) root) s (run (slideAt node x (treeOf (now (pairs .entry)) (now (parents .entry)) (now (heights .entry)) root)) s)) (treeOf (now (pairs .entry)) (now (parents .entry)) (now (heights .entry)) root) s (after r (now (pairs .exit)) (now (parents .exit)) (now (heights .exit))) ⌝ }
 {
     let count = branches::count(pairs, heights, x, sibling);
     if count == 0 {
@@ -242,7 +241,7 @@ fn slide_down(
     x: f64,
     s: Supply,
 ) -> Turn
-    ensures { λ r. ⌜ (Goes false (now (pairs .entry)) (now (parents .entry)) (now (heights .entry)) root node x → p ≡ parent (treeOf (now (pairs .entry)) (now (parents .entry)) (now (heights .entry)) root) node → after r (now (pairs .exit)) (now (parents .exit)) (now (heights .exit)) ≡ turnOf (treeOf (now (pairs .entry)) (now (parents .entry)) (now (heights .entry)) root) s (run (slideAt node x (treeOf (now (pairs .entry)) (now (parents .entry)) (now (heights .entry)) root)) s)) ⌝ }
+    ensures { λ r. ⌜ Turning (GoesDown (now (pairs .entry)) (now (parents .entry)) (now (heights .entry)) root node p x) (turnOf (treeOf (now (pairs .entry)) (now (parents .entry)) (now (heights .entry)) root) s (run (slideAt node x (treeOf (now (pairs .entry)) (now (parents .entry)) (now (heights .entry)) root)) s)) (treeOf (now (pairs .entry)) (now (parents .entry)) (now (heights .entry)) root) s (after r (now (pairs .exit)) (now (parents .exit)) (now (heights .exit))) ⌝ }
 {
     if x < reads::height(heights, node) {
         return Turn {
@@ -271,7 +270,7 @@ fn subtree_slide_turn(
     step: f64,
     s: Supply,
 ) -> Turn
-    ensures { λ r. ⌜ (Slidable (now (pairs .entry)) (now (parents .entry)) (now (heights .entry)) root node → after r (now (pairs .exit)) (now (parents .exit)) (now (heights .exit)) ≡ turnOf (treeOf (now (pairs .entry)) (now (parents .entry)) (now (heights .entry)) root) s (run (Programs.subtreeSlide node step (treeOf (now (pairs .entry)) (now (parents .entry)) (now (heights .entry)) root)) s)) ⌝ }
+    ensures { λ r. ⌜ Turning (Slidable (now (pairs .entry)) (now (parents .entry)) (now (heights .entry)) root node) (turnOf (treeOf (now (pairs .entry)) (now (parents .entry)) (now (heights .entry)) root) s (run (Programs.subtreeSlide node step (treeOf (now (pairs .entry)) (now (parents .entry)) (now (heights .entry)) root)) s)) (treeOf (now (pairs .entry)) (now (parents .entry)) (now (heights .entry)) root) s (after r (now (pairs .exit)) (now (parents .exit)) (now (heights .exit))) ⌝ }
 {
     let p = reads::parent(parents, node);
     let old = reads::height(heights, p);
@@ -313,14 +312,14 @@ pub fn subtree_slide_unvalidated(
     random: Random,
     allowance: u32,
 ) -> Answered
-    ensures { λ r. ⌜ (Accepted (treeOf (now (pairs .entry)) (now (parents .entry)) (now (heights .entry)) root) → called (r .answer) (r .random) (now (pairs .exit)) (now (parents .exit)) (now (heights .exit)) ≡ moveCall (subtreeSlide node step) (treeOf (now (pairs .entry)) (now (parents .entry)) (now (heights .entry)) root) random allowance) ⌝ }
+    ensures { λ r. ⌜ UnvalidatedCall (subtreeSlide node step) (treeOf (now (pairs .entry)) (now (parents .entry)) (now (heights .entry)) root) random allowance (called (r .answer) (r .random) (now (pairs .exit)) (now (parents .exit)) (now (heights .exit))) ⌝ }
 {
-    if MOST_PLACES < pairs.len() {
-        return calls::refuse(Refusal::Size(pairs.len() / 2), random);
-    }
     let limits = is_slidable(pairs, root, node, step);
     match calls::check_limits(limits, allowance) {
         Verdict::Fine => {
+            if MOST_PLACES < pairs.len() {
+                return calls::refuse(Refusal::Size(pairs.len() / 2), random);
+            }
             let s = Supply {
                 random,
                 left: allowance,

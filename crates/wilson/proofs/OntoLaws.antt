@@ -23,6 +23,7 @@ use Rattle.calls.specs.declared.Height.the-variants as Heights
 use Rattle.calls.specs.declared.Turned.the-variants as Turns
 use Rattle.moves.specs.Programs.{wilsonHeight, onto}
 use Rattle.calls.specs.Given.{After, after, turnOf, heightOf}
+use Rattle.calls.specs.Harmless.{Turning}
 use Rattle.calls.specs.HeightLaws.{height-spent, height-inside, height-outside}
 use Rattle.grafts.specs.Given.{Regrafts}
 use Rattle.wilson.specs.Given.{barred, rangesOf, branchHeight, Ranged}
@@ -154,9 +155,10 @@ module _ (pairs parents : List ℕ) (heights : List Float) (root i j : ℕ) (s s
     ranged g = record { regrafts = g; new-is = ap (λ (x : Ranges). x .new) e; old-is = ap (λ (x : Ranges). x .old) e }
 
     pub onto-height : r .declined ≡ false → Regrafts pairs parents heights root i j → (a : After)
-        → (Ranged pairs parents heights root i j (r .new) (r .old) → a ≡ turnOf t s (run (wilsonHeight t i j) supply)) → a ≡ turnOf t s (run (onto t i j) supply)
+        → Turning (Ranged pairs parents heights root i j (r .new) (r .old)) (turnOf t s (run (wilsonHeight t i j) supply)) t supply a
+        → a ≡ turnOf t s (run (onto t i j) supply)
     unfolding onto
-    onto-height f g a q = rw (q (ranged g), ap (λ (x : Ranges). x .declined) (sym e) ∙ f)
+    onto-height f g a q = rw (q .decided (ranged g), ap (λ (x : Ranges). x .declined) (sym e) ∙ f)
 
 pub ruleset heightLaws = (height-none, height-out, height-moved)
 

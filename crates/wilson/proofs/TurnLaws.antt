@@ -16,6 +16,7 @@ use Rattle.calls.specs.declared.Turned.the-variants as Turns
 use Rattle.calls.specs.Draws.{nonRoot}
 use Rattle.moves.specs.Programs.{wilsonBalding, hosting, host, onto}
 use Rattle.calls.specs.Given.{After, after, turnOf}
+use Rattle.calls.specs.Harmless.{Turning}
 use Rattle.calls.specs.YieldLaws.{non-root-yields}
 use Rattle.grafts.specs.Given.{Regrafts}
 
@@ -55,9 +56,10 @@ module _ (pairs parents : List ℕ) (heights : List Float) (root : ℕ) (s : Sup
           record { valid = v; node = i .node; under = i .under; to = j .1 }
 
       pub turn-onto : Valid (nodesOf pairs) (treeOf pairs parents heights root) → (r : After)
-          → (Regrafts pairs parents heights root (a .value) (b .value) → r ≡ turnOf t s (run (onto t (a .value) (b .value)) (b .supply))) → r ≡ turnOf t s (run (wilsonBalding t) s)
+          → Turning (Regrafts pairs parents heights root (a .value) (b .value)) (turnOf t s (run (onto t (a .value) (b .value)) (b .supply))) t (b .supply) r
+          → r ≡ turnOf t s (run (wilsonBalding t) s)
       unfolding wilsonBalding host hosting onto
       turn-onto v r e =
-          e (regrafts v) ∙ ap (turnOf t s) (sym (draw-got (nonRoot (nodesOf pairs) root) _ s _ _ (number-got s a _ ea h) ∙ draw-got (host (nodesOf pairs) t (a .value)) _ (a .supply) _ _ found))
+          e .decided (regrafts v) ∙ ap (turnOf t s) (sym (draw-got (nonRoot (nodesOf pairs) root) _ s _ _ (number-got s a _ ea h) ∙ draw-got (host (nodesOf pairs) t (a .value)) _ (a .supply) _ _ found))
 
 pub ruleset turnLaws = (turn-spent, turn-onto)

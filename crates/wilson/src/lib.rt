@@ -1,18 +1,19 @@
 // WilsonBalding of rove's mcmc/moves.rs over lent slices: the call of that name, which refuses what is not in order, and an unvalidated one, which
-// leaves the tree unchecked; both take whatever is lent. What their parts promise is promised of a valid tree. Assumes nothing.
+// leaves the tree unchecked; both take whatever is lent. Of an accepted tree both leave the same, and of any slices the unvalidated one leaves what is
+// harmless: its turn is the defined one of a valid tree, and mild on any slices. Assumes nothing.
 ghost use mathlib.Core.Path.{_≡_};
 ghost use mathlib.Core.List.{[]};
 ghost use Rattle.random.specs.Draw.{pick, run, drawnNumber};
 ghost use Rattle.tree.specs.Tree.{nodesOf};
-ghost use Rattle.tree.specs.New.{Accepted};
 ghost use Rattle.tree.specs.Valid.{Valid};
 ghost use Rattle.tree.specs.Given.{treeOf, datesIn};
 ghost use Rattle.rules.specs.Rules.{range, newRange, oldRange};
 ghost use Rattle.calls.specs.Call.{called};
 ghost use Rattle.moves.specs.Programs as Programs;
 ghost use Rattle.moves.specs.Programs.{wilsonHeight, hosting, host, onto};
-ghost use Rattle.moves.specs.Moves.{moveCall, wilsonBalding};
+ghost use Rattle.moves.specs.Moves.{wilsonBalding, moveCall, UnvalidatedCall};
 ghost use Rattle.calls.specs.Given.{after, turnOf};
+ghost use Rattle.calls.specs.Harmless.{Turning};
 ghost use Rattle.grafts.specs.Given.{Regrafts};
 ghost use Rattle.wilson.specs.Given.{barred, rangesOf, branchHeight, Ranged};
 use answer::Ratio;
@@ -172,7 +173,7 @@ fn wilson_height(
     s: Supply,
     supply: Supply,
 ) -> Turn
-    ensures { λ r. ⌜ (Ranged (now (pairs .entry)) (now (parents .entry)) (now (heights .entry)) root i j new old → after r (now (pairs .exit)) (now (parents .exit)) (now (heights .exit)) ≡ turnOf (treeOf (now (pairs .entry)) (now (parents .entry)) (now (heights .entry)) root) s (run (wilsonHeight (treeOf (now (pairs .entry)) (now (parents .entry)) (now (heights .entry)) root) i j) supply)) ⌝ }
+    ensures { λ r. ⌜ Turning (Ranged (now (pairs .entry)) (now (parents .entry)) (now (heights .entry)) root i j new old) (turnOf (treeOf (now (pairs .entry)) (now (parents .entry)) (now (heights .entry)) root) s (run (wilsonHeight (treeOf (now (pairs .entry)) (now (parents .entry)) (now (heights .entry)) root) i j) supply)) (treeOf (now (pairs .entry)) (now (parents .entry)) (now (heights .entry)) root) supply (after r (now (pairs .exit)) (now (parents .exit)) (now (heights .exit))) ⌝ }
 {
     let d = supply.uniform();
     let next = d.supply;
@@ -211,7 +212,7 @@ fn wilson_onto(
     s: Supply,
     supply: Supply,
 ) -> Turn
-    ensures { λ r. ⌜ (Regrafts (now (pairs .entry)) (now (parents .entry)) (now (heights .entry)) root i j → after r (now (pairs .exit)) (now (parents .exit)) (now (heights .exit)) ≡ turnOf (treeOf (now (pairs .entry)) (now (parents .entry)) (now (heights .entry)) root) s (run (onto (treeOf (now (pairs .entry)) (now (parents .entry)) (now (heights .entry)) root) i j) supply)) ⌝ }
+    ensures { λ r. ⌜ Turning (Regrafts (now (pairs .entry)) (now (parents .entry)) (now (heights .entry)) root i j) (turnOf (treeOf (now (pairs .entry)) (now (parents .entry)) (now (heights .entry)) root) s (run (onto (treeOf (now (pairs .entry)) (now (parents .entry)) (now (heights .entry)) root) i j) supply)) (treeOf (now (pairs .entry)) (now (parents .entry)) (now (heights .entry)) root) supply (after r (now (pairs .exit)) (now (parents .exit)) (now (heights .exit))) ⌝ }
 {
     let ranges = measure(pairs, parents, heights, root, i, j);
     if ranges.declined {
@@ -242,7 +243,7 @@ fn wilson_balding_turn(
     root: usize,
     s: Supply,
 ) -> Turn
-    ensures { λ r. ⌜ (Valid (nodesOf (now (pairs .entry))) (treeOf (now (pairs .entry)) (now (parents .entry)) (now (heights .entry)) root) → after r (now (pairs .exit)) (now (parents .exit)) (now (heights .exit)) ≡ turnOf (treeOf (now (pairs .entry)) (now (parents .entry)) (now (heights .entry)) root) s (run (Programs.wilsonBalding (treeOf (now (pairs .entry)) (now (parents .entry)) (now (heights .entry)) root)) s)) ⌝ }
+    ensures { λ r. ⌜ Turning (Valid (nodesOf (now (pairs .entry))) (treeOf (now (pairs .entry)) (now (parents .entry)) (now (heights .entry)) root)) (turnOf (treeOf (now (pairs .entry)) (now (parents .entry)) (now (heights .entry)) root) s (run (Programs.wilsonBalding (treeOf (now (pairs .entry)) (now (parents .entry)) (now (heights .entry)) root)) s)) (treeOf (now (pairs .entry)) (now (parents .entry)) (now (heights .entry)) root) s (after r (now (pairs .exit)) (now (parents .exit)) (now (heights .exit))) ⌝ }
 {
     let n = pairs.len() / 2;
     let a = calls::non_root(s, n, root);
@@ -275,7 +276,7 @@ pub fn wilson_balding_unvalidated(
     random: Random,
     allowance: u32,
 ) -> Answered
-    ensures { λ r. ⌜ (Accepted (treeOf (now (pairs .entry)) (now (parents .entry)) (now (heights .entry)) root) → called (r .answer) (r .random) (now (pairs .exit)) (now (parents .exit)) (now (heights .exit)) ≡ moveCall wilsonBalding (treeOf (now (pairs .entry)) (now (parents .entry)) (now (heights .entry)) root) random allowance) ⌝ }
+    ensures { λ r. ⌜ UnvalidatedCall wilsonBalding (treeOf (now (pairs .entry)) (now (parents .entry)) (now (heights .entry)) root) random allowance (called (r .answer) (r .random) (now (pairs .exit)) (now (parents .exit)) (now (heights .exit))) ⌝ }
 {
     match calls::check_limits(true, allowance) {
         Verdict::Refused(why) => {

@@ -1,5 +1,6 @@
 -- `exchanges::narrow` meets its contract. Assumes nothing.
 use borrow.Author.Needs.{needs}
+use Rattle.calls.specs.HarmlessLaws.{mildLaws}
 use Rattle.exchanges.proofs.NarrowLaws.{narrowLaws}
 use Rattle.exchanges.proofs.narrow.Statement.{statement}
 use Rattle.exchanges.proofs.narrow.Tie as tie
@@ -26,7 +27,7 @@ same-length-2 : tie.Need-same-length-2
 same-length-2 c = search (narrowLaws, needs)
 
 returns : tie.Need-returns
-returns c = λ v. search (narrowLaws, needs)
+returns c = record { decided = λ v. search (narrowLaws, needs); mild = search (mildLaws, needs) }
 
 pub narrow-spec : {M : Type 1} → statement M
 narrow-spec =

@@ -1,5 +1,6 @@
 -- `exchanges::narrow_exchange_turn` meets its contract. Assumes nothing.
 use borrow.Author.Needs.{needs}
+use Rattle.calls.specs.HarmlessLaws.{mildLaws}
 use Rattle.exchanges.proofs.NarrowLaws.{narrowTurnLaws}
 use Rattle.exchanges.proofs.narrow_exchange_turn.Statement.{statement}
 use Rattle.exchanges.proofs.narrow_exchange_turn.Tie as tie
@@ -8,7 +9,7 @@ is-one-internal-requires : tie.Need-is-one-internal-requires
 is-one-internal-requires c κs = search (narrowTurnLaws, needs)
 
 returns : tie.Need-returns
-returns c = λ v. search (narrowTurnLaws, needs)
+returns c = record { decided = λ v. search (narrowTurnLaws, needs); mild = search (mildLaws, needs) }
 
 grandparent-requires : tie.Need-grandparent-requires
 grandparent-requires c κs = search (narrowTurnLaws, needs)
@@ -23,13 +24,13 @@ same-length-2 : tie.Need-same-length-2
 same-length-2 c = search (narrowTurnLaws, needs)
 
 returns-2 : tie.Need-returns-2
-returns-2 c = λ v. search (narrowTurnLaws, needs)
+returns-2 c = record { decided = λ v. search (narrowTurnLaws, needs); mild = search (mildLaws, needs) }
 
 same-length-3 : tie.Need-same-length-3
 same-length-3 c = search (narrowTurnLaws, needs)
 
 returns-3 : tie.Need-returns-3
-returns-3 c = λ v. search (narrowTurnLaws, needs)
+returns-3 c = record { decided = λ v. search (narrowTurnLaws, needs); mild = search (mildLaws, needs) }
 
 pub narrow-exchange-turn-spec : {M : Type 1} → statement M
 narrow-exchange-turn-spec =

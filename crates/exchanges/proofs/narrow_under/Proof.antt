@@ -1,5 +1,6 @@
 -- `exchanges::narrow_under` meets its contract. Assumes nothing.
 use borrow.Author.Needs.{needs}
+use Rattle.calls.specs.HarmlessLaws.{mildLaws}
 use Rattle.exchanges.proofs.NarrowLaws.{underLaws}
 use Rattle.exchanges.proofs.narrow_under.Statement.{statement}
 use Rattle.exchanges.proofs.narrow_under.Tie as tie
@@ -11,7 +12,7 @@ same-length : tie.Need-same-length
 same-length c = search (underLaws, needs)
 
 returns : tie.Need-returns
-returns c = λ v. search (underLaws, needs)
+returns c = record { decided = λ v. search (underLaws, needs); mild = search (mildLaws, needs) }
 
 coin-requires : tie.Need-coin-requires
 coin-requires c κs = search (underLaws, needs)
@@ -26,13 +27,13 @@ same-length-3 : tie.Need-same-length-3
 same-length-3 c = search (underLaws, needs)
 
 returns-2 : tie.Need-returns-2
-returns-2 c = λ v. search (underLaws, needs)
+returns-2 c = record { decided = λ v. search (underLaws, needs); mild = search (mildLaws, needs) }
 
 same-length-4 : tie.Need-same-length-4
 same-length-4 c = search (underLaws, needs)
 
 returns-3 : tie.Need-returns-3
-returns-3 c = λ v. search (underLaws, needs)
+returns-3 c = record { decided = λ v. search (underLaws, needs); mild = search (mildLaws, needs) }
 
 pub narrow-under-spec : {M : Type 1} → statement M
 narrow-under-spec =

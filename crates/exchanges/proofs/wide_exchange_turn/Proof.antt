@@ -1,5 +1,6 @@
 -- `exchanges::wide_exchange_turn` meets its contract. Assumes nothing.
 use borrow.Author.Needs.{needs}
+use Rattle.calls.specs.HarmlessLaws.{mildLaws}
 use Rattle.exchanges.proofs.WideLaws.{wideLaws}
 use Rattle.exchanges.proofs.wide_exchange_turn.Statement.{statement}
 use Rattle.exchanges.proofs.wide_exchange_turn.Tie as tie
@@ -17,7 +18,7 @@ same-length : tie.Need-same-length
 same-length c = search (wideLaws, needs)
 
 returns : tie.Need-returns
-returns c = λ v. search (wideLaws, needs)
+returns c = record { decided = λ v. search (wideLaws, needs); mild = search (mildLaws, needs) }
 
 exchange-requires : tie.Need-exchange-requires
 exchange-requires c κs = search (wideLaws, needs)
@@ -29,13 +30,13 @@ same-length-3 : tie.Need-same-length-3
 same-length-3 c = search (wideLaws, needs)
 
 returns-2 : tie.Need-returns-2
-returns-2 c = λ v. search (wideLaws, needs)
+returns-2 c = record { decided = λ v. search (wideLaws, needs); mild = search (mildLaws, needs) }
 
 returns-3 : tie.Need-returns-3
-returns-3 c = λ v. search (wideLaws, needs)
+returns-3 c = record { decided = λ v. search (wideLaws, needs); mild = search (mildLaws, needs) }
 
 returns-4 : tie.Need-returns-4
-returns-4 c = λ v. search (wideLaws, needs)
+returns-4 c = record { decided = λ v. search (wideLaws, needs); mild = search (mildLaws, needs) }
 
 pub wide-exchange-turn-spec : {M : Type 1} → statement M
 wide-exchange-turn-spec =

@@ -1,5 +1,6 @@
 -- `heights::node_height_turn` meets its contract. Assumes nothing.
 use borrow.Author.Needs.{needs}
+use Rattle.heights.proofs.MildLaws.{heightsMildLaws}
 use Rattle.heights.proofs.RangeLaws.{kinLaws, passed}
 use Rattle.heights.proofs.NodeHeightLaws.{nodeHeightLaws, turn-spent}
 use Rattle.heights.proofs.node_height_turn.Statement.{statement}
@@ -12,7 +13,7 @@ stay-requires : tie.Need-stay-requires
 stay-requires c κs = search (kinLaws, nodeHeightLaws, needs)
 
 returns : tie.Need-returns
-returns c = λ v. search (kinLaws, nodeHeightLaws, needs)
+returns c = record { decided = λ v. search (kinLaws, nodeHeightLaws, needs); mild = search (heightsMildLaws, needs) }
 
 non-root-internal-requires : tie.Need-non-root-internal-requires
 non-root-internal-requires c κs = search (kinLaws, nodeHeightLaws, needs)
@@ -27,7 +28,7 @@ same-length : tie.Need-same-length
 same-length c = search (kinLaws, nodeHeightLaws, needs)
 
 returns-2 : tie.Need-returns-2
-returns-2 c = λ v. search (kinLaws, nodeHeightLaws, needs)
+returns-2 c = record { decided = λ v. search (kinLaws, nodeHeightLaws, needs); mild = search (heightsMildLaws, needs) }
 
 stay-requires-2 : tie.Need-stay-requires-2
 stay-requires-2 c κs = search (kinLaws, nodeHeightLaws, needs)
@@ -36,16 +37,16 @@ same-length-2 : tie.Need-same-length-2
 same-length-2 c = search (kinLaws, nodeHeightLaws, needs)
 
 returns-3 : tie.Need-returns-3
-returns-3 c = λ v. search (kinLaws, nodeHeightLaws, needs)
+returns-3 c = record { decided = λ v. search (kinLaws, nodeHeightLaws, needs); mild = search (heightsMildLaws, needs) }
 
 returns-4 : tie.Need-returns-4
-returns-4 c = λ v. (let d = c .before .before in turn-spent _ _ _ _ _ v (d .before .if2 .left) (d .non-root-internal .result) (d .non-root-internal .ensures) (c .if3 .left))
+returns-4 c = record { decided = λ v. (let d = c .before .before in turn-spent _ _ _ _ _ v (d .before .if2 .left) (d .non-root-internal .result) (d .non-root-internal .ensures) (c .if3 .left)); mild = search (heightsMildLaws, needs) }
 
 stay-requires-3 : tie.Need-stay-requires-3
 stay-requires-3 c κs = search (kinLaws, nodeHeightLaws, needs)
 
 returns-5 : tie.Need-returns-5
-returns-5 c = λ v. search (kinLaws, nodeHeightLaws, needs)
+returns-5 c = record { decided = λ v. search (kinLaws, nodeHeightLaws, needs); mild = search (heightsMildLaws, needs) }
 
 pub node-height-turn-spec : {M : Type 1} → statement M
 node-height-turn-spec =

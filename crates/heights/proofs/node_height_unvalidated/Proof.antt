@@ -14,7 +14,7 @@ refuse-requires : tie.Need-refuse-requires
 refuse-requires c κs = search (unvalidatedLaws, needs)
 
 returns : tie.Need-returns
-returns c = λ v. search (unvalidatedLaws, needs)
+returns c = search (unvalidatedLaws, needs)
 
 enum-told : tie.Need-enum-told
 enum-told c = search (unvalidatedLaws, needs)
@@ -29,7 +29,7 @@ same-length : tie.Need-same-length
 same-length c = search (unvalidatedLaws, needs)
 
 returns-2 : tie.Need-returns-2
-returns-2 c = λ v. search (unvalidatedLaws, needs)
+returns-2 c = search (unvalidatedLaws, needs)
 
 pub node-height-unvalidated-spec : {M : Type 1} → statement M
 node-height-unvalidated-spec =

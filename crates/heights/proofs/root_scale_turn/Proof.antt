@@ -1,5 +1,6 @@
 -- `heights::root_scale_turn` meets its contract. Assumes nothing.
 use borrow.Author.Needs.{needs}
+use Rattle.heights.proofs.MildLaws.{heightsMildLaws}
 use Rattle.heights.proofs.RangeLaws.{kinLaws}
 use Rattle.heights.proofs.RootScaleLaws.{rootScaleLaws, root-declined, root-moved}
 use Rattle.heights.proofs.root_scale_turn.Statement.{statement}
@@ -33,14 +34,17 @@ same-length : tie.Need-same-length
 same-length c = search (kinLaws, rootScaleLaws, needs)
 
 returns : tie.Need-returns
-returns c = λ v. (
-    let l = c .before .before in
-    let b = l .before .before .before in
-    let f = b .before .before in
-    let w = f .before .before .before .before in
-    let u = w .before .before in
-    root-declined _ _ _ _ _ _ (u .uniform .result) (u .uniform .ensures) (w .if1 .taken) (f .scaler .result) (f .scaler .ensures) (b .is-finite .result)
-    (b .is-finite .ensures) (l .before .before .if3 .taken) (l .floor .result) (l .floor .ensures) (c .before .if4 .taken) (c .stay .result) (c .stay .ensures))
+returns c = record {
+  decided = λ v. (
+      let l = c .before .before in
+      let b = l .before .before .before in
+      let f = b .before .before in
+      let w = f .before .before .before .before in
+      let u = w .before .before in
+      root-declined _ _ _ _ _ _ (u .uniform .result) (u .uniform .ensures) (w .if1 .taken) (f .scaler .result) (f .scaler .ensures) (b .is-finite .result)
+      (b .is-finite .ensures) (l .before .before .if3 .taken) (l .floor .result) (l .floor .ensures) (c .before .if4 .taken) (c .stay .result) (c .stay .ensures));
+  mild = search (heightsMildLaws, needs);
+}
 
 mul-heights : tie.Need-mul-heights
 mul-heights c = search (kinLaws, rootScaleLaws, needs)
@@ -52,20 +56,23 @@ same-length-2 : tie.Need-same-length-2
 same-length-2 c = search (kinLaws, rootScaleLaws, needs)
 
 returns-2 : tie.Need-returns-2
-returns-2 c = λ v. (
-    let l = c .before in
-    let b = l .before .before .before in
-    let f = b .before .before in
-    let w = f .before .before .before .before in
-    let u = w .before .before in
-    root-moved _ _ _ _ _ _ (u .uniform .result) (u .uniform .ensures) (w .if1 .taken) (f .scaler .result) (f .scaler .ensures) (b .is-finite .result)
-    (b .is-finite .ensures) (l .before .before .if3 .taken) (l .floor .result) (l .floor .ensures) (c .if4 .left))
+returns-2 c = record {
+  decided = λ v. (
+      let l = c .before in
+      let b = l .before .before .before in
+      let f = b .before .before in
+      let w = f .before .before .before .before in
+      let u = w .before .before in
+      root-moved _ _ _ _ _ _ (u .uniform .result) (u .uniform .ensures) (w .if1 .taken) (f .scaler .result) (f .scaler .ensures) (b .is-finite .result)
+      (b .is-finite .ensures) (l .before .before .if3 .taken) (l .floor .result) (l .floor .ensures) (c .if4 .left));
+  mild = search (heightsMildLaws, needs);
+}
 
 same-length-3 : tie.Need-same-length-3
 same-length-3 c = search (kinLaws, rootScaleLaws, needs)
 
 returns-3 : tie.Need-returns-3
-returns-3 c = λ v. search (kinLaws, rootScaleLaws, needs)
+returns-3 c = record { decided = λ v. search (kinLaws, rootScaleLaws, needs); mild = search (heightsMildLaws, needs) }
 
 stay-requires-2 : tie.Need-stay-requires-2
 stay-requires-2 c κs = search (kinLaws, rootScaleLaws, needs)
@@ -74,10 +81,10 @@ same-length-4 : tie.Need-same-length-4
 same-length-4 c = search (kinLaws, rootScaleLaws, needs)
 
 returns-4 : tie.Need-returns-4
-returns-4 c = λ v. search (kinLaws, rootScaleLaws, needs)
+returns-4 c = record { decided = λ v. search (kinLaws, rootScaleLaws, needs); mild = search (heightsMildLaws, needs) }
 
 returns-5 : tie.Need-returns-5
-returns-5 c = λ v. search (kinLaws, rootScaleLaws, needs)
+returns-5 c = record { decided = λ v. search (kinLaws, rootScaleLaws, needs); mild = search (heightsMildLaws, needs) }
 
 pub root-scale-turn-spec : {M : Type 1} → statement M
 root-scale-turn-spec =

@@ -17,7 +17,7 @@ refuse-requires : tie.Need-refuse-requires
 refuse-requires c κs = search (scaleAnswerLaws, needs)
 
 returns : tie.Need-returns
-returns c = λ v. search (scaleAnswerLaws, needs)
+returns c = search (scaleAnswerLaws, needs)
 
 enum-told : tie.Need-enum-told
 enum-told c = search (scaleAnswerLaws, needs)
@@ -29,7 +29,7 @@ answer-requires : tie.Need-answer-requires
 answer-requires c κs = search (scaleAnswerLaws, needs)
 
 returns-2 : tie.Need-returns-2
-returns-2 c = λ v. search (scaleAnswerLaws, needs)
+returns-2 c = search (scaleAnswerLaws, needs)
 
 pub tree-scale-answer-spec : {M : Type 1} → statement M
 tree-scale-answer-spec =

@@ -1,6 +1,7 @@
 -- `heights::tree_scale_turn` meets its contract. Assumes nothing.
 use borrow.Author.Needs.{needs}
-use Rattle.heights.proofs.TreeScaleLaws.{treeScaleLaws, tree-not-finite}
+use Rattle.heights.proofs.MildLaws.{heightsMildLaws}
+use Rattle.heights.proofs.TreeScaleLaws.{treeScaleLaws}
 use Rattle.heights.proofs.tree_scale_turn.Statement.{statement}
 use Rattle.heights.proofs.tree_scale_turn.Tie as tie
 
@@ -26,22 +27,22 @@ tree-scale-ratio-requires : tie.Need-tree-scale-ratio-requires
 tree-scale-ratio-requires c κs = search (treeScaleLaws, needs)
 
 returns : tie.Need-returns
-returns c = λ v. search (treeScaleLaws, needs)
+returns c = record { decided = λ v. search (treeScaleLaws, needs); mild = search (heightsMildLaws, needs) }
 
 lowest-overflow-requires : tie.Need-lowest-overflow-requires
 lowest-overflow-requires c κs = search (treeScaleLaws, needs)
 
 returns-2 : tie.Need-returns-2
-returns-2 c = λ v. search (treeScaleLaws, needs)
+returns-2 c = record { decided = λ v. search (treeScaleLaws, needs); mild = search (heightsMildLaws, needs) }
 
 stay-requires : tie.Need-stay-requires
 stay-requires c κs = search (treeScaleLaws, needs)
 
 returns-3 : tie.Need-returns-3
-returns-3 c = λ v. search (treeScaleLaws, needs)
+returns-3 c = record { decided = λ v. search (treeScaleLaws, needs); mild = search (heightsMildLaws, needs) }
 
 returns-4 : tie.Need-returns-4
-returns-4 c = λ v. search (treeScaleLaws, needs)
+returns-4 c = record { decided = λ v. search (treeScaleLaws, needs); mild = search (heightsMildLaws, needs) }
 
 pub tree-scale-turn-spec : {M : Type 1} → statement M
 tree-scale-turn-spec =

@@ -13,7 +13,7 @@ same-length : tie.Need-same-length
 same-length c = search needs
 
 returns : tie.Need-returns
-returns c = λ v. (let m = c .before .before in rw (m .scale-by .ensures) (m .before .before .tree-scale-answer .ensures v))
+returns c = let m = c .before .before in rw (m .scale-by .ensures) (m .before .before .tree-scale-answer .ensures)
 
 pub tree-scale-unvalidated-spec : {M : Type 1} → statement M
 tree-scale-unvalidated-spec =

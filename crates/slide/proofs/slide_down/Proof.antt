@@ -1,5 +1,6 @@
 -- `slide::slide_down` meets its contract. Assumes nothing.
 use borrow.Author.Needs.{needs}
+use Rattle.calls.specs.HarmlessLaws.{mildLaws}
 use Rattle.slide.proofs.SlideLaws.{down-above, down-past, down-stays}
 use Rattle.slide.proofs.slide_down.Statement.{statement}
 use Rattle.slide.proofs.slide_down.Tie as tie
@@ -11,7 +12,7 @@ same-length : tie.Need-same-length
 same-length c = search needs
 
 returns : tie.Need-returns
-returns c = λ v upper. search (down-above, needs)
+returns c = record { decided = λ v. search (down-above, needs); mild = search (mildLaws, needs) }
 
 other-requires : tie.Need-other-requires
 other-requires c κs = search needs
@@ -32,7 +33,7 @@ same-length-4 : tie.Need-same-length-4
 same-length-4 c = search needs
 
 returns-2 : tie.Need-returns-2
-returns-2 c = λ v upper. search (down-past, needs)
+returns-2 c = record { decided = λ v. search (down-past, needs); mild = search (mildLaws, needs) }
 
 set-height-requires : tie.Need-set-height-requires
 set-height-requires c κs = search needs
@@ -44,7 +45,7 @@ same-length-6 : tie.Need-same-length-6
 same-length-6 c = search needs
 
 returns-3 : tie.Need-returns-3
-returns-3 c = λ v upper.
+returns-3 c =
     let set = c .before .before in
     let short = set .before .before in
     let level = short .before in
@@ -52,8 +53,12 @@ returns-3 c = λ v upper.
     let low = other .before .before in
     let height = low .before in
     let start = height .before .before .before .before .before in
-    down-stays _ _ _ _ _ _ v _ (height .height .ensures) (low .if1 .left) _ upper _ (other .other .ensures) _ (level .height2 .ensures) (short .if2 .left) _
-    (set .set-height .ensures) (start .args .s)
+    record {
+      decided = λ v.
+          down-stays _ _ _ _ _ _ (v .goes) _ (height .height .ensures) (low .if1 .left) _ (v .above) _ (other .other .ensures) _ (level .height2 .ensures) (short .if2 .left) _
+          (set .set-height .ensures) (start .args .s);
+      mild = search (mildLaws, needs);
+    }
 
 pub slide-down-spec : {M : Type 1} → statement M
 slide-down-spec =

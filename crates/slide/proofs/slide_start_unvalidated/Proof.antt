@@ -17,13 +17,13 @@ sub-t14 : tie.Need-sub-t14
 sub-t14 c = search (startLaws, needs)
 
 returns : tie.Need-returns
-returns c = λ v. search (startLaws, needs)
+returns c = search (startLaws, needs)
 
 turn-back-requires : tie.Need-turn-back-requires
 turn-back-requires c κs = search needs
 
 returns-2 : tie.Need-returns-2
-returns-2 c = λ v. search (startLaws, needs)
+returns-2 c = search (startLaws, needs)
 
 enum-known-why : tie.Need-enum-known-why
 enum-known-why c = search needs
@@ -32,7 +32,7 @@ turn-back-requires-2 : tie.Need-turn-back-requires-2
 turn-back-requires-2 c κs = search needs
 
 returns-3 : tie.Need-returns-3
-returns-3 c = λ v. search (startLaws, needs)
+returns-3 c = search (startLaws, needs)
 
 pub slide-start-unvalidated-spec : {M : Type 1} → statement M
 slide-start-unvalidated-spec =

@@ -1,5 +1,6 @@
 -- `slide::slide_up` meets its contract. Assumes nothing.
 use borrow.Author.Needs.{needs}
+use Rattle.calls.specs.HarmlessLaws.{mildLaws}
 use Rattle.slide.proofs.SlideLaws.{up-stays, up-goes}
 use Rattle.slide.proofs.slide_up.Statement.{statement}
 use Rattle.slide.proofs.slide_up.Tie as tie
@@ -17,7 +18,7 @@ same-length-2 : tie.Need-same-length-2
 same-length-2 c = search needs
 
 returns : tie.Need-returns
-returns c = λ v upper old. search (up-stays, needs)
+returns c = record { decided = λ v. search (up-stays, needs); mild = search (mildLaws, needs) }
 
 regraft-requires : tie.Need-regraft-requires
 regraft-requires c κs = search needs
@@ -35,7 +36,7 @@ same-length-5 : tie.Need-same-length-5
 same-length-5 c = search needs
 
 returns-2 : tie.Need-returns-2
-returns-2 c = λ v upper old. search (up-goes, needs)
+returns-2 c = record { decided = λ v. search (up-goes, needs); mild = search (mildLaws, needs) }
 
 pub slide-up-spec : {M : Type 1} → statement M
 slide-up-spec =

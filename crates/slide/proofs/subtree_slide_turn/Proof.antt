@@ -26,7 +26,7 @@ same-length-3 : tie.Need-same-length-3
 same-length-3 c = search needs
 
 returns : tie.Need-returns
-returns c = λ v. search (turnLaws, needs)
+returns c = search (turnLaws, needs)
 
 slide-down-requires : tie.Need-slide-down-requires
 slide-down-requires c κs = search needs
@@ -41,7 +41,7 @@ same-length-6 : tie.Need-same-length-6
 same-length-6 c = search needs
 
 returns-2 : tie.Need-returns-2
-returns-2 c = λ v. search (turnLaws, needs)
+returns-2 c = search (turnLaws, needs)
 
 same-length-7 : tie.Need-same-length-7
 same-length-7 c = search needs
@@ -50,7 +50,7 @@ same-length-8 : tie.Need-same-length-8
 same-length-8 c = search needs
 
 returns-3 : tie.Need-returns-3
-returns-3 c = λ v. search (turnLaws, needs)
+returns-3 c = search (turnLaws, needs)
 
 pub subtree-slide-turn-spec : {M : Type 1} → statement M
 subtree-slide-turn-spec =

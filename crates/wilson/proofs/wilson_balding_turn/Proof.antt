@@ -1,5 +1,6 @@
 -- `wilson::wilson_balding_turn` meets its contract. Assumes nothing.
 use borrow.Author.Needs.{needs}
+use Rattle.calls.specs.HarmlessLaws.{mildLaws}
 use Rattle.wilson.proofs.TurnLaws.{turn-spent-later, turnLaws}
 use Rattle.wilson.proofs.wilson_balding_turn.Statement.{statement}
 use Rattle.wilson.proofs.wilson_balding_turn.Tie as tie
@@ -23,7 +24,7 @@ same-length-3 : tie.Need-same-length-3
 same-length-3 c = search needs
 
 returns : tie.Need-returns
-returns c = λ v. search (turnLaws, needs)
+returns c = record { decided = λ v. search (turnLaws, needs); mild = search (mildLaws, needs) }
 
 same-length-4 : tie.Need-same-length-4
 same-length-4 c = search needs
@@ -32,14 +33,17 @@ same-length-5 : tie.Need-same-length-5
 same-length-5 c = search needs
 
 returns-2 : tie.Need-returns-2
-returns-2 c = λ v.
+returns-2 c =
     let b = c .before .before .host in
     let y = c .before .before .before .before .before in
     let a = y .before .before .non-root in
-    turn-spent-later _ _ _ _ _ (a .result) (a .ensures) (y .if1 .taken) (b .result) (b .ensures) (c .if2 .left)
+    record {
+      decided = λ v. turn-spent-later _ _ _ _ _ (a .result) (a .ensures) (y .if1 .taken) (b .result) (b .ensures) (c .if2 .left);
+      mild = search (mildLaws, needs);
+    }
 
 returns-3 : tie.Need-returns-3
-returns-3 c = λ v. search (turnLaws, needs)
+returns-3 c = record { decided = λ v. search (turnLaws, needs); mild = search (mildLaws, needs) }
 
 pub wilson-balding-turn-spec : {M : Type 1} → statement M
 wilson-balding-turn-spec =

@@ -14,7 +14,7 @@ refuse-requires : tie.Need-refuse-requires
 refuse-requires c κs = search needs
 
 returns : tie.Need-returns
-returns c = λ v. search (unvalidatedLaws, needs)
+returns c = search (unvalidatedLaws, needs)
 
 enum-told : tie.Need-enum-told
 enum-told c = search needs
@@ -35,7 +35,7 @@ same-length-3 : tie.Need-same-length-3
 same-length-3 c = search needs
 
 returns-2 : tie.Need-returns-2
-returns-2 c = λ v. search (unvalidatedLaws, needs)
+returns-2 c = search (unvalidatedLaws, needs)
 
 pub wilson-balding-unvalidated-spec : {M : Type 1} → statement M
 wilson-balding-unvalidated-spec =

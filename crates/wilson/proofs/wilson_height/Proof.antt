@@ -1,5 +1,6 @@
 -- `wilson::wilson_height` meets its contract. Assumes nothing.
 use borrow.Author.Needs.{needs}
+use Rattle.calls.specs.HarmlessLaws.{mildLaws}
 use Rattle.wilson.proofs.OntoLaws.{heightLaws}
 use Rattle.wilson.proofs.wilson_height.Statement.{statement}
 use Rattle.wilson.proofs.wilson_height.Tie as tie
@@ -26,7 +27,7 @@ same-length-3 : tie.Need-same-length-3
 same-length-3 c = search needs
 
 returns : tie.Need-returns
-returns c = λ v. search (heightLaws, needs)
+returns c = record { decided = λ v. search (heightLaws, needs); mild = search (mildLaws, needs) }
 
 enum-told : tie.Need-enum-told
 enum-told c = search needs
@@ -41,10 +42,10 @@ same-length-5 : tie.Need-same-length-5
 same-length-5 c = search needs
 
 returns-2 : tie.Need-returns-2
-returns-2 c = λ v. search (heightLaws, needs)
+returns-2 c = record { decided = λ v. search (heightLaws, needs); mild = search (mildLaws, needs) }
 
 returns-3 : tie.Need-returns-3
-returns-3 c = λ v. search (heightLaws, needs)
+returns-3 c = record { decided = λ v. search (heightLaws, needs); mild = search (mildLaws, needs) }
 
 pub wilson-height-spec : {M : Type 1} → statement M
 wilson-height-spec =

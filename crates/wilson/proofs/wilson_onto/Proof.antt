@@ -1,5 +1,6 @@
 -- `wilson::wilson_onto` meets its contract. Assumes nothing.
 use borrow.Author.Needs.{needs}
+use Rattle.calls.specs.HarmlessLaws.{mildLaws}
 use Rattle.wilson.proofs.OntoLaws.{ontoLaws}
 use Rattle.wilson.proofs.wilson_onto.Statement.{statement}
 use Rattle.wilson.proofs.wilson_onto.Tie as tie
@@ -17,7 +18,7 @@ same-length-3 : tie.Need-same-length-3
 same-length-3 c = search needs
 
 returns : tie.Need-returns
-returns c = λ v. search (ontoLaws, needs)
+returns c = record { decided = λ v. search (ontoLaws, needs); mild = search (mildLaws, needs) }
 
 wilson-height-requires : tie.Need-wilson-height-requires
 wilson-height-requires c κs = search needs
@@ -32,7 +33,7 @@ same-length-6 : tie.Need-same-length-6
 same-length-6 c = search needs
 
 returns-2 : tie.Need-returns-2
-returns-2 c = λ v. search (ontoLaws, needs)
+returns-2 c = record { decided = λ v. search (ontoLaws, needs); mild = search (mildLaws, needs) }
 
 pub wilson-onto-spec : {M : Type 1} → statement M
 wilson-onto-spec =
