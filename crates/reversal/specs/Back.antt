@@ -13,7 +13,7 @@ pub record Kept (n : ℕ) (t u : Tree) : Type 0 where
   pub valid : Valid n u
   pub tips : (k : ℕ) → k + k ≤ n → height u k ≡ height t k
 
--- the move m keeps a valid tree: so is what every choice makes that it admits there, whatever the heights of children
+-- every choice that the move m admits on a valid tree makes a tree that is kept, whatever the heights of children
 abbrev pub Keeps : Reversible → Type 0
 Keeps m = (n : ℕ) (t : Tree) → Valid n t → (c : Choice m) → Listed n m t c → declines n m t c ≡ false → Kept n t (made n m t c)
 
