@@ -1,15 +1,18 @@
--- The checks of a call of TipAge. In order: what they pass (`ages-fine`); that they say the same of two allowances within the limits (`ages-same`),
--- and of one smaller than one that they pass (`ages-smaller`); and that they refuse with 5 at most (`ages-few`). Assumes nothing.
+-- The checks of a call of TipAge. In order: what is known of a table and of parameters that are fine (`judged-sound`, `within-fine`); what the checks pass
+-- (`ages-fine`); that they say the same of two allowances within the limits (`ages-same`), and of one smaller than one that they pass (`ages-smaller`);
+-- and that they refuse with 5 at most (`ages-few`). Assumes nothing.
 use mathlib.Core.Path.{_≡_, refl}
-use mathlib.Core.Bool.{Bool, true, false, _&&_, cond}
+use mathlib.Core.Bool.{Bool, true, false, _&&_}
 use mathlib.Core.List.{List}
 use Prim.Native.Nat.{ℕ, _≤_, _<_}
 use native.Mathlib.Omega.{arith}
-use lib.Dec.{eqb}
+use lib.Dec.{T, eqb}
 use lib.ListN.{length}
 use lib.Ieee.{Float}
+use lib.Ieee.Bits.{is-true}
+use lib.Ieee.Fits.{and-r}
 use borrow.Author.Tests.{eq-eqb}
-use Rattle.answer.specs.declared.Refusal.the-variants.{Size, Parameter}
+use Rattle.answer.specs.declared.Refusal.the-variants.{Size}
 use Rattle.random.specs.Draw.{allowed}
 use Rattle.tree.specs.declared.Verdict.{Verdict}
 use Rattle.tree.specs.declared.Verdict.the-variants as Verdicts
@@ -23,10 +26,10 @@ use Rattle.calls.specs.CallLaws.{allows, allowed-top, then-few, limited-few}
 use Rattle.process.specs.declared.FossilizedBirthDeath.{FossilizedBirthDeath}
 use Rattle.process.specs.Process.{processFinite}
 use Rattle.ages.specs.CheckedLaws.{passed}
-use Rattle.ages.specs.Ages.{atFault, tableSized, Judged, in-order, some-tip}
+use Rattle.ages.specs.Ages.{atFault, tableSized, orParameter, Judged, in-order, some-tip}
 use Rattle.dating.specs.TipAge.{agesChecked}
 
-clash : {X : Type 0} → _≡_ {A = ℕ} 0 1 → X
+pub clash : {X : Type 0} → _≡_ {A = ℕ} 0 1 → X
 clash z = absurd (omega arith)
 
 -- ---- what passes
@@ -36,10 +39,15 @@ judged-fine : (fault : ℕ → Bool) (tips : ℕ) (v : Verdict) → Judged fault
 judged-fine fault tips v (in-order f) h = refl
 judged-fine fault tips v (some-tip k l e) h = let q = h k l in clash cc
 
-limits-fine : (b c : Bool) → cond (b && c) Verdicts.Fine (Verdicts.Refused (Parameter 0)) ≡ Verdicts.Fine → c ≡ true
-limits-fine true true e = refl
-limits-fine true false e = clash cc
-limits-fine false c e = clash cc
+-- and where a table is fine, no tip is at fault
+pub judged-sound : (fault : ℕ → Bool) (tips : ℕ) (v : Verdict) → Judged fault tips v → v ≡ Verdicts.Fine → (k : ℕ) → k < tips → fault k ≡ false
+judged-sound fault tips v (in-order f) e k l = f k l
+judged-sound fault tips v (some-tip k l e) q j m = clash cc
+
+-- parameters that are fine are within their limits
+pub within-fine : (b : Bool) → orParameter b ≡ Verdicts.Fine → T b
+within-fine true e = tt
+within-fine false e = clash cc
 
 -- ---- numbers
 
@@ -83,8 +91,8 @@ module _ (minima maxima : List Float) (p : FossilizedBirthDeath) (t : Tree) (tab
     where
       within : agesChecked minima maxima p t b table ≡ Verdicts.Fine → allowed b ≡ true
       within y =
-          limits-fine (processFinite p) (allowed b)
-          (passed minima maxima t (processFinite p && allowed b) table (unfold agesChecked in y) .within)
+          is-true (allowed b) (and-r (processFinite p) (allowed b)
+          (within-fine (processFinite p && allowed b) (passed minima maxima t (processFinite p && allowed b) table (unfold agesChecked in y) .within)))
 
   -- ---- refusals
 

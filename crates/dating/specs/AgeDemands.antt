@@ -1,9 +1,9 @@
 -- The client's demands on the calls of TipAge, whatever is said of the table: what every call on a tree leaves (calls/LeavesLaws) and `age-explained`
 -- (AgeExplainedLaws). In order: demand 1 (`age-ends`, `age-refused`); the draws made (`age-steps`, `age-within`); what a moved, a declined and a refused
--- call come from (`age-admitted`, `age-declined`, `age-kept`, `age-outside`, `age-finite`); and other allowances (`age-larger`, `age-enough`). Assumes
--- nothing.
-use mathlib.Core.Path.{_≡_}
-use mathlib.Core.Bool.{true, false}
+-- call come from (`age-admitted`, `age-declined`, `age-kept`, `age-outside`, `age-finite`); other allowances (`age-larger`, `age-enough`); and that a call
+-- leaves an accepted tree (`age-accepted`, `age-stays`). Assumes nothing.
+use mathlib.Core.Path.{_≡_, subst}
+use mathlib.Core.Bool.{true, false, _&&_}
 use mathlib.Core.List.{List}
 use Prim.Native.Nat.{ℕ, _≤_, _<_}
 use native.Mathlib.Omega.{arith}
@@ -21,18 +21,23 @@ use Rattle.random.specs.Draw.{Draw, supplyOf, allowed}
 use Rattle.tree.specs.declared.Verdict.{Verdict}
 use Rattle.tree.specs.Tree.{Tree, nodesOf, tipsOf}
 use Rattle.tree.specs.New.{Accepted}
+use Rattle.tree.specs.Valid.{Valid}
+use Rattle.accepted.specs.AcceptedLaws.{valid-accepted}
+use Rattle.accepted.specs.ValidatedLaws.{fine-valid}
 use Rattle.calls.specs.Call.{Reply, makes, notFinite, outside, Outcome, declined, moved, calledOn}
 use Rattle.calls.specs.CallLaws.{allows}
 use Rattle.calls.specs.LeavesLaws.{Replied, leaves-refused, leaves-kept, leaves-steps, leaves-within, leaves-larger, leaves-enough, leaves-moved, leaves-declined, leaves-infinite, leaves-outside}
-use Rattle.moves.specs.Ends.{treeAfter, Ends}
-use Rattle.moves.specs.EndsLaws.{run-ends}
+use Rattle.moves.specs.Ends.{treeAfter, treeLeft, Ends}
+use Rattle.moves.specs.EndsLaws.{run-ends, left-so}
 use Rattle.process.specs.declared.FossilizedBirthDeath.{FossilizedBirthDeath}
 use Rattle.process.specs.Process.{processFinite}
-use Rattle.ages.specs.Ages.{atFault, Judged}
+use Rattle.ages.specs.Ages.{ageOf, atFault, Judged}
+use Rattle.ages.specs.CheckedLaws.{Passed, passed}
 use Rattle.dating.specs.TipAge.{tipAge, agesChecked, tipAgeCall}
 use Rattle.dating.specs.AgeEnds.{AgeAdmitted, AgeDeclined, AgeStrays, AgeExplained, is-moved, is-declined, is-outside}
 use Rattle.dating.specs.AgeExplainedLaws.{age-explained}
-use Rattle.dating.specs.AgeCheckLaws.{ages-fine, ages-same, ages-smaller, ages-few}
+use Rattle.dating.specs.AgeCheckLaws.{judged-sound, ages-fine, ages-same, ages-smaller, ages-few}
+use Rattle.dating.specs.AgeValidLaws.{sound-age, tip-age-valid}
 
 module _ (minima maxima : List Float) (p : FossilizedBirthDeath) (t : Tree) (g : Random) (table : Verdict) where
   abbrev checks : ℕ → Verdict
@@ -129,3 +134,26 @@ module _ (minima maxima : List Float) (p : FossilizedBirthDeath) (t : Tree) (g :
       → drawsOf (tipAgeCall minima maxima p t g b table .answer) ≤ a → tipAgeCall minima maxima p t g a table ≡ tipAgeCall minima maxima p t g b table
   unfolding tipAgeCall
   age-enough a b h k = leaves-enough t program g (checks a) (checks b) a b (ages-smaller minima maxima p t table a b h k) k
+
+  -- ---- what a call leaves is accepted
+
+  -- a call that moved passed its checks
+  moved-passed : (a : ℕ) (v : Moved) → tipAgeCall minima maxima p t g a table .answer ≡ Answers.Moved v
+      → Passed minima maxima t (processFinite p && allowed a) table
+  unfolding tipAgeCall agesChecked
+  moved-passed a v q = passed minima maxima t (processFinite p && allowed a) table (leaves-moved t program g (checks a) a v q .fine)
+
+  -- where the table is said to be fine or some tip at fault is named
+  module _ (j : Judged (atFault p minima maxima) (tipsOf (nodesOf (t .pairs))) table) (a : ℕ) where
+    -- `Tree::new` accepts what a call that moved leaves
+    pub age-accepted : (v : Moved) → tipAgeCall minima maxima p t g a table .answer ≡ Answers.Moved v → Accepted (treeAfter (tipAgeCall minima maxima p t g a table) (v .root))
+    age-accepted v q =
+        let n = nodesOf (t .pairs) in
+        let x = age-admitted a v q in
+        let c = moved-passed a v q in
+        let s = sound-age p minima maxima (x .tip) (judged-sound (atFault p minima maxima) (tipsOf n) table j (c .table) (x .tip) (x .listed .tip)) in
+        valid-accepted n _ (subst (Valid n) (x .tree) (tip-age-valid (fine-valid t (c .tree)) (x .tip) (ageOf minima maxima (x .tip)) s (x .height) (x .listed)))
+
+    -- and what any call on an accepted tree leaves
+    pub age-stays : Accepted t → Accepted (treeLeft (tipAgeCall minima maxima p t g a table) (t .root))
+    age-stays = left-so Accepted t g (tipAgeCall minima maxima p t g a table) age-accepted (age-kept a) (age-refused a)

@@ -21,10 +21,10 @@ use Rattle.ages.specs.declared.TipAge.{TipAge}
 use Rattle.ages.specs.Ages.{ageOf, tableChecked}
 
 -- 2.0 and 0.8
-abbrev two : Float
+abbrev pub two : Float
 two = ofBits binary64 0x4000_0000_0000_0000
 
-abbrev fourFifths : Float
+abbrev pub fourFifths : Float
 fourFifths = ofBits binary64 0x3fe9_9999_9999_999a
 
 -- ---- the new heights

@@ -1,5 +1,6 @@
 -- Initialize and TipAge are the calls on a tree with a table of ages, and Rows are such calls on tree F; Given has the forms of the code. AgeEnds has
--- definitions too, the words of the demands. AgeDemands has the theorems on the calls of TipAge; the files whose names end in Laws lead to them.
+-- definitions too, the words of the demands, and so has Steps, calls of tree moves and of TipAge one after the other. AgeDemands has the theorems on the
+-- calls of TipAge, StartValidLaws that on `initialize` and StepsLaws that on such calls; the other files whose names end in Laws lead to them.
 pub mod Initialize
 pub mod TipAge
 pub mod Given
@@ -7,4 +8,8 @@ pub mod Rows
 pub mod AgeEnds
 pub mod AgeExplainedLaws
 pub mod AgeCheckLaws
+pub mod AgeValidLaws
+pub mod StartValidLaws
 pub mod AgeDemands
+pub mod Steps
+pub mod StepsLaws

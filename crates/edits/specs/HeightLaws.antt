@@ -1,31 +1,28 @@
--- A node's new height: the shape, the parents, the root and the ways up to it stay (`set-shaped` to `set-reach`), the node has the height and
--- the others keep theirs (`height-same`, `height-other`), and the old height put back gives the old tree (`set-back`). Assumes nothing.
+-- Other heights. A tree with another list of heights has the shape and the ways up to the root (`redated-shaped`, `redated-reach`), and is valid where
+-- its heights are in order (`redated-valid`). A node's new height: the shape, the parents, the root and the ways up to it stay (`set-shaped` to
+-- `set-reach`), the node has the height and the others keep theirs (`height-same`, `height-other`), and the old height put back gives the old tree
+-- (`set-back`). Assumes nothing.
 use mathlib.Core.Path.{_≡_, refl, _∙_}
 use mathlib.Core.Logic.{_≢_}
+use mathlib.Core.List.{List}
 use Prim.Native.Nat.{ℕ, _<_}
-use lib.ListN.{length, length-set}
+use lib.ListN.{length, set, length-set}
 use lib.Seq.{getD-set-same, getD-set-other, set-getD, set-set}
 use lib.Ieee.{Float, nan}
 use Rattle.tree.specs.Tree.{Tree, parent, height}
-use Rattle.tree.specs.Valid.{Reach, here, up}
+use Rattle.tree.specs.Given.{treeOf}
+use Rattle.tree.specs.Valid.{Reach, here, up, Dated, Valid}
 use Rattle.edits.specs.Slots.{content, setHeight}
-use Rattle.edits.specs.SlotLaws.{Shaped}
+use Rattle.edits.specs.SlotLaws.{Shaped, valid-shaped, shaped-valid}
 
-module _ (t : Tree) (k : ℕ) (x : Float) where
-  -- ---- what stays
+-- ---- another list of heights
 
+module _ (t : Tree) (hs : List Float) where
   -- every node stands where it stood
-  pub set-shaped : {n : ℕ} {σ : ℕ → ℕ} → Shaped n t σ → Shaped n (setHeight t k x) σ
-  unfolding setHeight content parent
-  set-shaped s = record {
-    sized = record {
-      some = s .sized .some;
-      few = s .sized .few;
-      odd = s .sized .odd;
-      pairs = s .sized .pairs;
-      parents = s .sized .parents;
-      heights = length-set (t .heights) k x ∙ s .sized .heights;
-    };
+  pub redated-shaped : {n : ℕ} {σ : ℕ → ℕ} → length hs ≡ n → Shaped n t σ → Shaped n (treeOf (t .pairs) (t .parents) hs (t .root)) σ
+  unfolding content parent
+  redated-shaped l s = record {
+    sized = record { some = s .sized .some; few = s .sized .few; odd = s .sized .odd; pairs = s .sized .pairs; parents = s .sized .parents; heights = l };
     tip = s .tip;
     slot = s .slot;
     holds = s .holds;
@@ -33,6 +30,25 @@ module _ (t : Tree) (k : ℕ) (x : Float) where
     node = s .node;
     stands = s .stands;
   }
+
+  -- a way up to the root is one still
+  pub redated-reach : {c : ℕ} → Reach t c → Reach (treeOf (t .pairs) (t .parents) hs (t .root)) c
+  unfolding parent
+  redated-reach (here e) = here e
+  redated-reach (up d r) = up d (redated-reach r)
+
+  -- so a valid tree stays one where the new heights are in order
+  pub redated-valid : {n : ℕ} → Valid n t → length hs ≡ n → Dated n (treeOf (t .pairs) (t .parents) hs (t .root))
+      → Valid n (treeOf (t .pairs) (t .parents) hs (t .root))
+  redated-valid v l = shaped-valid (redated-shaped l (valid-shaped v)) (λ c C. redated-reach (v .joined c C))
+
+-- ---- one new height
+
+module _ (t : Tree) (k : ℕ) (x : Float) where
+  -- every node stands where it stood
+  pub set-shaped : {n : ℕ} {σ : ℕ → ℕ} → Shaped n t σ → Shaped n (setHeight t k x) σ
+  unfolding setHeight
+  set-shaped s = redated-shaped t (set (t .heights) k x) (length-set (t .heights) k x ∙ s .sized .heights) s
 
   -- every node keeps its parent
   pub set-parent : (c : ℕ) → parent (setHeight t k x) c ≡ parent t c
@@ -46,11 +62,8 @@ module _ (t : Tree) (k : ℕ) (x : Float) where
 
   -- a way up to the root is one still
   pub set-reach : {c : ℕ} → Reach t c → Reach (setHeight t k x) c
-  unfolding setHeight parent
-  set-reach (here e) = here e
-  set-reach (up d r) = up d (set-reach r)
-
-  -- ---- the heights
+  unfolding setHeight
+  set-reach = redated-reach t (set (t .heights) k x)
 
   -- the node has the new height
   pub height-same : k < length (t .heights) → height (setHeight t k x) k ≡ x

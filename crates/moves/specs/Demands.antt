@@ -1,15 +1,21 @@
 -- The client's demands on the calls of the seven tree moves: `explained` (ExplainedLaws) and what every call on a tree leaves (calls/LeavesLaws), on the
 -- answer, the generator and the slices. In order: demand 1 (`ends`, `refused-unchanged`); the draws made (`steps`, `within-allowance`);
 -- what a moved, a declined and a refused call come from (`admitted`, `accepted`, `declined`, `declined-unchanged`, `infinite`, `outside-interval`); other
--- allowances (`larger`, `enough`); and demand 3 for what runs (`reversible`). Assumes nothing.
-use mathlib.Core.Path.{_≡_}
+-- allowances (`larger`, `enough`); demand 3 for what runs (`reversible`); and that a call leaves an accepted tree (`settled`, `kept`, `stays-settled`,
+-- `stays-accepted`), tips at the present where they were (`stays-present`), and so does any number of calls (`run-accepted`, `run-present`). Assumes
+-- nothing.
+use mathlib.Core.Path.{_≡_, refl, sym, subst}
 use mathlib.Core.Bool.{true}
+use mathlib.Core.List.{List, [], _∷_}
 use Prim.Native.Nat.{ℕ, _≤_}
 use native.Mathlib.Omega.{arith}
+use lib.Dec.{T}
+use lib.Ieee.Fits.{and-l, and-r}
 use Rattle.answer.specs.declared.Refusal.{Refusal}
 use Rattle.answer.specs.declared.Refusal.the-variants as Refusals
 use Rattle.answer.specs.declared.Ratio.{Ratio}
 use Rattle.answer.specs.declared.Moved.{Moved}
+use Rattle.answer.specs.declared.Answer.{Answer}
 use Rattle.answer.specs.declared.Answer.the-variants as Answers
 use Rattle.answer.specs.Answers.{drawsOf}
 use Rattle.random.specs.declared.Random.{Random}
@@ -19,20 +25,24 @@ use Rattle.tree.specs.declared.Verdict.the-variants as Verdicts
 use Rattle.tree.specs.Tree.{Tree, nodesOf}
 use Rattle.tree.specs.New.{Accepted}
 use Rattle.tree.specs.Valid.{Strict}
+use Rattle.accepted.specs.WayLaws.{valid-nodes}
 use Rattle.accepted.specs.AcceptedLaws.{accepted-valid, valid-accepted}
 use Rattle.accepted.specs.ValidatedLaws.{fine-valid, valid-fine}
+use Rattle.rules.specs.Moves as Reversibles
 use Rattle.rules.specs.Moves.{Reversible}
-use Rattle.reversal.specs.Reversal.{reversal}
+use Rattle.reversal.specs.Back.{Kept}
+use Rattle.reversal.specs.Reversal.{makes-kept, reversal}
 use Rattle.calls.specs.Call.{Reply, makes, notFinite, outside, checked, callOf, Outcome, calledOn, treeCall}
 use Rattle.calls.specs.Call as Call
 use Rattle.calls.specs.EntryLaws.{passed}
 use Rattle.calls.specs.CallLaws.{checked-few, allows, allowed-top, same-checks}
 use Rattle.calls.specs.LeavesLaws.{Replied, leaves-refused, leaves-kept, leaves-steps, leaves-within, leaves-larger, leaves-enough, leaves-moved, leaves-declined, leaves-infinite, leaves-outside}
-use Rattle.moves.specs.Moves.{Move, limits, program, moveCall}
+use Rattle.moves.specs.Moves.{Move, nodeHeight, subtreeSlide, narrowExchange, wideExchange, wilsonBalding, rootScale, treeScale, limits, program, moveCall}
 use Rattle.moves.specs.Explained.{Admits, Admitted, Declined, Overflows, Strays, Explained, is-moved, is-declined, is-infinite, is-outside}
 use Rattle.moves.specs.ExplainedLaws.{explained}
-use Rattle.moves.specs.Ends.{treeAfter, Ends, Reverses, of-node-height, of-subtree-slide, of-narrow-exchange, of-wide-exchange, of-wilson-balding, TakenBack}
-use Rattle.moves.specs.EndsLaws.{run-ends}
+use Rattle.moves.specs.Ends.{treeAfter, rootAfter, treeLeft, TipsUnder, Present, Settled, Steady, Asked, treeThrough, noTreeScale, withoutTreeScale, Ends, Reverses, of-node-height, of-subtree-slide, of-narrow-exchange, of-wide-exchange, of-wilson-balding, TakenBack}
+use Rattle.moves.specs.EndsLaws.{run-ends, left-so}
+use Rattle.moves.specs.ScaleLaws.{root-scales-kept, tree-scales-nodes, tree-scales-kept, tree-scales-present}
 
 -- the checks of a call on an accepted tree, with parameters within their limits
 fine : (m : Move) (t : Tree) → Accepted t → limits m t ≡ true → (a : ℕ) → allowed a ≡ true → checked (limits m t) t a ≡ Verdicts.Fine
@@ -149,3 +159,116 @@ pub reversible : {m : Move} {r : Reversible} → Reverses m r → (t : Tree) →
 reversible {m} {r} k t st g a v e =
     let x = admits k (admitted m t g a v e) in
     record { choice = x .choice; makes = x .makes; reversed = reversal t (accepted m t g a v e) st r (x .choice) _ (v .ratio) (x .makes) }
+
+-- ---- what a call leaves is accepted
+
+-- what an admitted move makes of an accepted tree is valid, with the tips' ages
+admitted-kept : (m : Move) (t u : Tree) (r : Ratio) → Accepted t → limits m t ≡ true → Admitted m t u r → Settled m u → Kept (nodesOf (t .pairs)) t u
+admitted-kept nodeHeight t u r a l x s = makes-kept t a Reversibles.NodeHeight (x .choice) u r (x .makes)
+admitted-kept (subtreeSlide i step) t u r a l x s = makes-kept t a Reversibles.SubtreeSlide _ u r (x .makes)
+admitted-kept narrowExchange t u r a l x s = makes-kept t a Reversibles.NarrowExchange (x .choice) u r (x .makes)
+admitted-kept wideExchange t u r a l x s = makes-kept t a Reversibles.WideExchange (x .choice) u r (x .makes)
+admitted-kept wilsonBalding t u r a l x s = makes-kept t a Reversibles.WilsonBalding (x .choice) u r (x .makes)
+admitted-kept (rootScale f) t u r a l x s = root-scales-kept (accepted-valid t a) x
+admitted-kept (treeScale f) t u r a l x s =
+    let v = accepted-valid t a in
+    tree-scales-kept v l x (subst (λ (k : ℕ). TipsUnder k u) (tree-scales-nodes v l x) s)
+
+-- where what is known of the tree t is enough, what is asked of u holds
+admitted-settled : (m : Move) (t u : Tree) (r : Ratio) → Accepted t → limits m t ≡ true → Admitted m t u r → Steady m t → Settled m u
+admitted-settled nodeHeight t u r a l x s = tt
+admitted-settled (subtreeSlide i step) t u r a l x s = tt
+admitted-settled narrowExchange t u r a l x s = tt
+admitted-settled wideExchange t u r a l x s = tt
+admitted-settled wilsonBalding t u r a l x s = tt
+admitted-settled (rootScale f) t u r a l x s = tt
+admitted-settled (treeScale f) t u r a l x s =
+    subst (λ (k : ℕ). TipsUnder k u) (sym (tree-scales-nodes (accepted-valid t a) l x)) (tree-scales-present (accepted-valid t a) l x s)
+
+-- of a move that is not TreeScale nothing is asked
+steady-still : (m : Move) (t : Tree) → T (noTreeScale m) → Steady m t
+steady-still nodeHeight t h = tt
+steady-still (subtreeSlide i step) t h = tt
+steady-still narrowExchange t h = tt
+steady-still wideExchange t h = tt
+steady-still wilsonBalding t h = tt
+steady-still (rootScale s) t h = tt
+steady-still (treeScale s) t h = absurd h
+
+-- and of any move no more than that every tip is at the present
+steady-present : (m : Move) (t : Tree) → Present (nodesOf (t .pairs)) t → Steady m t
+steady-present nodeHeight t h = tt
+steady-present (subtreeSlide i step) t h = tt
+steady-present narrowExchange t h = tt
+steady-present wideExchange t h = tt
+steady-present wilsonBalding t h = tt
+steady-present (rootScale s) t h = tt
+steady-present (treeScale s) t h = h
+
+module _ (m : Move) (t : Tree) (g : Random) where
+  -- the parameters of a call that moved are within their limits
+  moved-within : (a : ℕ) (v : Moved) → moveCall m t g a .answer ≡ Answers.Moved v → limits m t ≡ true
+  unfolding treeCall callOf
+  moved-within a v q = passed (limits m t) t a (leaves-moved t (program m t) g (checked (limits m t) t a) a v q .fine) .within
+
+  -- what a call that moved leaves is valid, with the tips' ages
+  moved-kept : (a : ℕ) (v : Moved) → moveCall m t g a .answer ≡ Answers.Moved v → Settled m (treeAfter (moveCall m t g a) (v .root))
+      → Kept (nodesOf (t .pairs)) t (treeAfter (moveCall m t g a) (v .root))
+  moved-kept a v q = admitted-kept m t _ (v .ratio) (accepted m t g a v q) (moved-within a v q) (admitted m t g a v q)
+
+  -- where what is known of the tree t is enough, what is asked of the tree made holds
+  moved-settled : (a : ℕ) (v : Moved) → moveCall m t g a .answer ≡ Answers.Moved v → Steady m t → Settled m (treeAfter (moveCall m t g a) (v .root))
+  moved-settled a v q = admitted-settled m t _ (v .ratio) (accepted m t g a v q) (moved-within a v q) (admitted m t g a v q)
+
+  -- `Tree::new` accepts what a call that moved leaves, ties included: after TreeScale where no tip is above its parent there
+  pub settled : (a : ℕ) (v : Moved) → moveCall m t g a .answer ≡ Answers.Moved v → Settled m (treeAfter (moveCall m t g a) (v .root))
+      → Accepted (treeAfter (moveCall m t g a) (v .root))
+  settled a v q s = valid-accepted (nodesOf (t .pairs)) _ (moved-kept a v q s .valid)
+
+  -- and so after TreeScale where every tip was at the present
+  pub kept : (a : ℕ) (v : Moved) → moveCall m t g a .answer ≡ Answers.Moved v → Steady m t → Accepted (treeAfter (moveCall m t g a) (v .root))
+  kept a v q s = settled a v q (moved-settled a v q s)
+
+  -- what any call on an accepted tree leaves, moved or not, is valid, with the tips' ages
+  left-kept : Accepted t → (a : ℕ) → ((v : Moved) → moveCall m t g a .answer ≡ Answers.Moved v → Settled m (treeAfter (moveCall m t g a) (v .root)))
+      → Kept (nodesOf (t .pairs)) t (treeLeft (moveCall m t g a) (t .root))
+  left-kept p a s =
+      left-so (Kept (nodesOf (t .pairs)) t) t g (moveCall m t g a) (λ v e. moved-kept a v e (s v e)) (declined-unchanged m t g a) (refused-unchanged m t g a)
+      (record { valid = accepted-valid t p; tips = λ k h. refl })
+
+  -- so `Tree::new` accepts it: after TreeScale where no tip is above its parent there
+  pub stays-settled : Accepted t → (a : ℕ) → Settled m (treeLeft (moveCall m t g a) (t .root)) → Accepted (treeLeft (moveCall m t g a) (t .root))
+  stays-settled p a s = valid-accepted (nodesOf (t .pairs)) _ (left-kept p a moved .valid)
+    where
+      moved : (v : Moved) → moveCall m t g a .answer ≡ Answers.Moved v → Settled m (treeAfter (moveCall m t g a) (v .root))
+      moved v e = subst (λ (x : Answer). Settled m (treeAfter (moveCall m t g a) (rootAfter x (t .root)))) e s
+
+  -- and so after TreeScale where every tip was at the present
+  pub stays-accepted : Accepted t → Steady m t → (a : ℕ) → Accepted (treeLeft (moveCall m t g a) (t .root))
+  stays-accepted p s a = valid-accepted (nodesOf (t .pairs)) _ (left-kept p a (λ v e. moved-settled a v e s) .valid)
+
+  -- every tip that was at the present is there still
+  pub stays-present : Accepted t → Present (nodesOf (t .pairs)) t → (a : ℕ)
+      → Present (nodesOf (treeLeft (moveCall m t g a) (t .root) .pairs)) (treeLeft (moveCall m t g a) (t .root))
+  stays-present p z a =
+      let k = left-kept p a (λ v e. moved-settled a v e (steady-present m t z)) in
+      rw (valid-nodes (k .valid)) (λ c h. rw (k .tips c h) (z c h))
+
+-- ---- calls one after the other
+
+-- any number of calls with no TreeScale among them, from an accepted tree, leaves one that `Tree::new` accepts
+pub run-accepted : (calls : List Asked) (t : Tree) → Accepted t → T (withoutTreeScale calls) → Accepted (treeThrough calls t)
+unfolding treeThrough withoutTreeScale
+run-accepted [] t p h = p
+run-accepted (c ∷ cs) t p h =
+    let m = c .move in
+    run-accepted cs _ (stays-accepted m t (c .random) p (steady-still m t (and-l (noTreeScale m) (withoutTreeScale cs) h)) (c .allowance))
+    (and-r (noTreeScale m) (withoutTreeScale cs) h)
+
+-- and so does any number of calls, TreeScale among them, where every tip is at the present
+pub run-present : (calls : List Asked) (t : Tree) → Accepted t → Present (nodesOf (t .pairs)) t → Accepted (treeThrough calls t)
+unfolding treeThrough
+run-present [] t p z = p
+run-present (c ∷ cs) t p z =
+    let s = steady-present (c .move) t z in
+    run-present cs _ (stays-accepted (c .move) t (c .random) p s (c .allowance)) (stays-present (c .move) t (c .random) p z (c .allowance))

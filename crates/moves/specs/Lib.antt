@@ -6,6 +6,7 @@ pub mod Explained
 pub mod ExplainedLaws
 pub mod Ends
 pub mod EndsLaws
+pub mod ScaleLaws
 pub mod StartLaws
 pub mod Rows
 pub mod Demands

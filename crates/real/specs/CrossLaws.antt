@@ -63,7 +63,7 @@ pub or-l : (a b : Bool) → T a → T (a || b)
 or-l true b h = tt
 or-l false b h = absurd h
 
-or-r : (a b : Bool) → T b → T (a || b)
+pub or-r : (a b : Bool) → T b → T (a || b)
 or-r true b h = tt
 or-r false b h = h
 

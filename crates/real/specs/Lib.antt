@@ -1,5 +1,5 @@
--- The definitions that the contracts of real cite, and the laws of the order of floats, of ages, of products, and of arithmetic, which keeps
--- the order.
+-- The definitions that the contracts of real cite, and the laws of the order of floats, of ages, of products, of arithmetic, which keeps the
+-- order, and of floats that are not negative but may have a minus sign.
 pub mod Real
 pub mod Printed
 pub mod Ages
@@ -9,3 +9,4 @@ pub mod FieldLaws
 pub mod AgeLaws
 pub mod ProductLaws
 pub mod MonotoneLaws
+pub mod SignedLaws

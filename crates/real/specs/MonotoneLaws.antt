@@ -1,6 +1,7 @@
 -- Sums, differences, products and quotients keep the order of floats that are not negative: where the operands of one result bound those of
 -- another, the results are in order, and the smaller is finite where the larger is (`add-le`, `sub-le`, `mul-le`, `div-le`). And a sum is not
--- below a value of the format that it adds to (`le-add`). All floats here are `unsigned`, and so are the results. Assumes nothing.
+-- below a value of the format that it adds to (`le-add`). All floats here are `unsigned`, and so are the results where they are finite
+-- (`add-unsigned` to `div-unsigned`). Assumes nothing.
 use mathlib.Core.Path.{_≡_, refl, sym, ap, _∙_, subst}
 use mathlib.Core.Bool.{Bool, true, false, true≢false, _&&_}
 use Prim.Native.Nat.{ℕ, zero, suc, _+_, _-_, _*_, _%_, _^_, _≤_, _<_}
@@ -64,7 +65,7 @@ unfolding ofBits
 zero-le x X = le-of-values Real.zero x 0 1 (num x) (den x) (lit< tt) (den-pos x) (refl, refl) (own-value x X) (omega arith)
 
 -- a float above zero has a numerator above zero
-over-zero : (x : Float) → T (unsigned x) → T (lt Real.zero x) → 0 < num x
+pub over-zero : (x : Float) → T (unsigned x) → T (lt Real.zero x) → 0 < num x
 unfolding ofBits
 over-zero nan X h = absurd X
 over-zero (inf s) X h = absurd X
@@ -73,7 +74,8 @@ over-zero (fin false m e) X h = let g = lt→less Real.zero (fin false m e) tt t
 
 -- ---- a rounded fraction
 
-rounded-unsigned : (a c : ℕ) → T (finite (round binary64 false a c)) → T (unsigned (round binary64 false a c))
+-- a rounded fraction without a minus sign has none
+pub rounded-unsigned : (a c : ℕ) → T (finite (round binary64 false a c)) → T (unsigned (round binary64 false a c))
 rounded-unsigned a c h = unsigned-of-value (round binary64 false a c) (grid binary64 a c) (2 ^ 1074) (round-val binary64 a c (round-under binary64 a c h))
 
 -- x is unsigned, and at most y
@@ -135,6 +137,25 @@ div-is (fin false m e) nan X Y h = absurd Y
 div-is (fin false m e) (inf t) X Y h = absurd Y
 div-is (fin false m e) (fin true n d) X Y h = absurd Y
 div-is (fin false m e) (fin false n d) X Y h = rw (ne-eqb n 0 (λ z. let g = first-pos n (up d) h in omega (arith, g, z)))
+
+-- ---- results have no minus sign
+
+module _ (x y : Float) (X : T (unsigned x)) (Y : T (unsigned y)) where
+  -- a finite sum has none
+  pub add-unsigned : T (finite (add binary64 x y)) → T (unsigned (add binary64 x y))
+  add-unsigned = rw (add-is x y X Y) (rounded-unsigned (num x * den y + num y * den x) (den x * den y))
+
+  -- nor a difference from which no more is taken than there is
+  pub sub-unsigned : T (le y x) → T (finite (sub binary64 x y)) → T (unsigned (sub binary64 x y))
+  sub-unsigned h = rw (sub-is x y X Y (le→cross y x Y X h)) (rounded-unsigned (num x * den y - num y * den x) (den x * den y))
+
+  -- nor a product
+  pub mul-unsigned : T (finite (mul binary64 x y)) → T (unsigned (mul binary64 x y))
+  mul-unsigned = rw (mul-is x y X Y) (rounded-unsigned (num x * num y) (den x * den y))
+
+  -- nor a quotient by a float above zero
+  pub div-unsigned : T (lt Real.zero y) → T (finite (div binary64 x y)) → T (unsigned (div binary64 x y))
+  div-unsigned h = rw (div-is x y X Y (over-zero y Y h)) (rounded-unsigned (num x * den y) (num y * den x))
 
 -- ---- the order of the fractions, x / d ≤ x′ / d′ and y / e ≤ y′ / e′, or y′ / e′ ≤ y / e
 

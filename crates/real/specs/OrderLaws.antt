@@ -7,12 +7,12 @@ use mathlib.Core.Bool.{Bool, true, false, not, cond}
 use Prim.Native.Nat.{ℕ, _+_, _*_, _≤_, _<_}
 use native.Mathlib.Nat.{mul-lt-mul-of-pos-right, mul-le-mul-right, lt-of-mul-lt-mul-right, le-of-mul-le-mul-right}
 use native.Mathlib.Omega.{arith}
-use lib.Dec.{T}
+use lib.Dec.{T, T-not, not-T}
 use lib.Ieee.{Float, nan, inf, fin, lt, le, eq, ofBits}
 use lib.Ieee.Positive.{den-pos}
 use lib.Ieee.Scale.{finite}
 use Rattle.real.specs.Real.{zero, infinity, maxOf, minOf}
-use Rattle.real.specs.CrossLaws.{lt→less, less→lt, le→most, most→le, nlt→most, nle→less, or-l}
+use Rattle.real.specs.CrossLaws.{lt→less, less→lt, le→most, most→le, nlt→most, nle→less, or-l, or-r}
 
 -- ---- two floats
 
@@ -26,6 +26,10 @@ lt-irrefl (fin s m e) h = let g = lt→less (fin s m e) (fin s m e) tt tt h in o
 pub lt→le : (x y : Float) → T (lt x y) → T (le x y)
 unfolding le
 lt→le x y h = or-l (lt x y) (eq x y) h
+
+pub eq→le : (x y : Float) → T (eq x y) → T (le x y)
+unfolding le
+eq→le x y h = or-r (lt x y) (eq x y) h
 
 pub le-refl : (x : Float) → T (finite x) → T (le x x)
 le-refl x p = most→le x x p p (omega arith)
@@ -79,6 +83,11 @@ module _ (x y z : Float) (X : T (finite x)) (Y : T (finite y)) (Z : T (finite z)
 
 pub lt-le-absurd : (x y : Float) → T (finite x) → T (finite y) → T (lt x y) → T (le y x) → ⊥
 lt-le-absurd x y X Y h k = lt-irrefl x (lt-le-trans x y x X Y X h k)
+
+-- what is at least a float that is not negative is not negative
+pub not-negative : (x y : Float) → T (finite x) → T (finite y) → T (not (lt x zero)) → T (le x y) → T (not (lt y zero))
+unfolding ofBits
+not-negative x y X Y p h = not-T (lt y zero) (λ q. T-not (lt x zero) p (le-lt-trans x y zero X Y tt h q))
 
 -- a float from one finite float to another is finite
 pub between : (a x b : Float) → T (finite a) → T (finite b) → T (le a x) → T (le x b) → T (finite x)

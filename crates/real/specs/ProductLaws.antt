@@ -51,14 +51,14 @@ smaller-finite s t a b c d B D h g =
 -- ---- products
 
 -- where a / d is at most b / e, so are their products with k / g
-cross : (a d b e k g : ℕ) → a * e ≤ b * d → a * k * (e * g) ≤ b * k * (d * g)
+pub cross : (a d b e k g : ℕ) → a * e ≤ b * d → a * k * (e * g) ≤ b * k * (d * g)
 cross a d b e k g h =
     let x : a * k * (e * g) ≡ a * e * (k * g) = simp (mul-assoc, mul-left-comm) in
     let y : b * k * (d * g) ≡ b * d * (k * g) = simp (mul-assoc, mul-left-comm) in
     rw (x, y) (mul-le-mul-right (k * g) h)
 
 -- no size is above that of a larger float, where the smaller is not negative
-size-le : (s t : Bool) (m n : ℕ) (e d : ℤ) → T (not (lt (fin s m e) Real.zero)) → T (le (fin s m e) (fin t n d)) → m * up e * down d ≤ n * up d * down e
+pub size-le : (s t : Bool) (m n : ℕ) (e d : ℤ) → T (not (lt (fin s m e) Real.zero)) → T (le (fin s m e) (fin t n d)) → m * up e * down d ≤ n * up d * down e
 unfolding ofBits
 size-le s t m n e d p h = go s t (nlt→most (fin s m e) Real.zero tt tt p) (le→most (fin s m e) (fin t n d) tt tt h)
   where
@@ -68,7 +68,7 @@ size-le s t m n e d p h = go s t (nlt→most (fin s m e) Real.zero tt tt p) (le�
     go true t a b = let z : m * up e ≡ 0 = omega arith in rw z (omega arith)
 
 -- a product with an infinity is not finite
-no-product : (b s : Bool) → T (finite (cond b nan (inf s))) → ⊥
+pub no-product : (b s : Bool) → T (finite (cond b nan (inf s))) → ⊥
 no-product true s h = h
 no-product false s h = h
 

@@ -1,28 +1,27 @@
--- Two nodes of a strictly dated tree that change places, neither being the other's parent nor above it (`Exchangeable`). In order: the root
--- stays, and the two have each other's parents (`root-kept`, `parent-i`, `parent-j`); the tree made is valid (`swap-valid`).
--- A way up from either parent climbs strictly above both nodes, so it is the old one. Assumes nothing.
-use mathlib.Core.Path.{_≡_, sym, ap, _∙_}
+-- Two nodes of a valid tree that change places, neither having the other's parent under it nor being higher than that (`Exchangeable`). In order: the
+-- root stays, and the two have each other's parents (`root-kept`, `parent-i`, `parent-j`); the tree made is valid, whatever the heights of children
+-- (`swap-valid`). A way up from either parent meets neither node, so it is the old one. Assumes nothing.
+use mathlib.Core.Path.{_≡_, sym, ap, _∙_, subst}
 use mathlib.Core.Logic.{_≢_}
 use Prim.Native.Nat.{ℕ, _<_}
 use lib.Dec.{T}
-use lib.Ieee.{lt, le}
-use lib.Ieee.Scale.{finite}
-use Rattle.real.specs.OrderLaws.{lt→le, le-lt-trans}
+use lib.Ieee.{le}
 use Rattle.tree.specs.Tree.{Tree, parent, height}
-use Rattle.tree.specs.Valid.{Reach, here, up, Dated, Valid, Strict}
+use Rattle.tree.specs.Valid.{Reach, here, up, Dated, Valid}
+use Rattle.accepted.specs.Ways.{Under, itself, through}
+use Rattle.accepted.specs.WayLaws.{not-under}
 use Rattle.edits.specs.Slots.{swap}
-use Rattle.edits.specs.SlotLaws.{valid-shaped, shaped-valid, not-own-parent}
+use Rattle.edits.specs.SlotLaws.{valid-shaped, shaped-valid}
 use Rattle.edits.specs.TurnLaws.{Among2, is-a, is-b, other, among2, turn2-a, turn2-b, turn2-other, swap-shaped, parent-swap, root-swap, height-swap}
-use Rattle.reversal.specs.FamilyLaws.{differ}
 
--- i and j are nodes with parents; neither is the other's parent, nor higher than the other's parent
+-- i and j are nodes with parents; neither has the other's parent under it, nor is higher than that
 pub record Exchangeable (n : ℕ) (t : Tree) (i j : ℕ) : Type 0 where
   pub node-i : i < n
   pub node-j : j < n
   pub under-i : i ≢ t .root
   pub under-j : j ≢ t .root
-  pub free-i : parent t i ≢ j
-  pub free-j : parent t j ≢ i
+  pub free-i : Under n t (parent t i) j → ⊥
+  pub free-j : Under n t (parent t j) i → ⊥
   pub low-i : T (le (height t i) (height t (parent t j)))
   pub low-j : T (le (height t j) (height t (parent t i)))
 
@@ -47,10 +46,7 @@ module _ {n : ℕ} {t : Tree} (v : Valid n t) (i j : ℕ) (I : i < n) (J : j < n
 
 -- ---- the tree made is valid
 
-module _ {n : ℕ} {t : Tree} (v : Valid n t) (st : Strict n t) (i j : ℕ) (x : Exchangeable n t i j) where
-  N : (c : ℕ) → c < n → T (finite (height t c))
-  N = v .dated .number
-
+module _ {n : ℕ} {t : Tree} (v : Valid n t) (i j : ℕ) (x : Exchangeable n t i j) where
   I : i < n
   I = x .node-i
 
@@ -66,55 +62,33 @@ module _ {n : ℕ} {t : Tree} (v : Valid n t) (st : Strict n t) (i j : ℕ) (x :
   root : (swap n t i j) .root ≡ t .root
   root = root-kept v i j I J (x .under-i) (x .under-j)
 
-  -- a node at least as high as a has a parent above it
-  rising : (a k : ℕ) → a < n → k < n → k ≢ t .root → T (le (height t a) (height t k)) → T (lt (height t a) (height t (parent t k)))
-  rising a k A K d h =
-      let p = parent t k in
-      le-lt-trans (height t a) (height t k) (height t p) (N a A) (N k K) (N p (v .below k K d .parent-node)) h (st k K d)
-
-  -- k is not one of the two, nor lower than either
-  record Over (k : ℕ) : Type 0 where
+  -- k is under neither of the two
+  record Beside (k : ℕ) : Type 0 where
     node : k < n
-    not-i : k ≢ i
-    not-j : k ≢ j
-    over-i : T (le (height t i) (height t k))
-    over-j : T (le (height t j) (height t k))
+    out-i : Under n t k i → ⊥
+    out-j : Under n t k j → ⊥
 
-  over-parent : (k : ℕ) → Over k → k ≢ t .root → Over (parent t k)
-  over-parent k o d =
-      let a = rising i k I (o .node) d (o .over-i) in
-      let b = rising j k J (o .node) d (o .over-j) in
-      record {
-        node = v .below k (o .node) d .parent-node;
-        not-i = differ t i (parent t k) a;
-        not-j = differ t j (parent t k) b;
-        over-i = lt→le (height t i) (height t (parent t k)) a;
-        over-j = lt→le (height t j) (height t (parent t k)) b;
-      }
+  beside-parent : (k : ℕ) → Beside k → k ≢ t .root → Beside (parent t k)
+  beside-parent k o d = record {
+    node = v .below k (o .node) d .parent-node;
+    out-i = λ u. o .out-i (through (o .node) d u);
+    out-j = λ u. o .out-j (through (o .node) d u);
+  }
 
-  -- a way that starts over both is the same way
-  high : {k : ℕ} → Reach t k → Over k → Reach (swap n t i j) k
+  -- a way that starts beside both is the same way
+  high : {k : ℕ} → Reach t k → Beside k → Reach (swap n t i j) k
   high (here e) o = here (e ∙ sym root)
-  high (up {k} d r) o = up (λ e. d (e ∙ root)) (rw (parent-kept v i j I J k (o .node) (o .not-i) (o .not-j)) (high r (over-parent k o d)))
+  high (up {k} d r) o =
+      let a : k ≢ i = λ e. o .out-i (subst (Under n t k) e itself) in
+      let b : k ≢ j = λ e. o .out-j (subst (Under n t k) e itself) in
+      up (λ e. d (e ∙ root)) (rw (parent-kept v i j I J k (o .node) a b) (high r (beside-parent k o d)))
 
-  -- the two new parents are over both
-  over-P : Over (parent t i)
-  over-P = record {
-    node = P;
-    not-i = not-own-parent v i I (x .under-i);
-    not-j = x .free-i;
-    over-i = v .dated .ordered i I (x .under-i);
-    over-j = x .low-j;
-  }
+  -- the two new parents are beside both
+  beside-P : Beside (parent t i)
+  beside-P = record { node = P; out-i = not-under v i I (x .under-i) itself; out-j = x .free-i }
 
-  over-Q : Over (parent t j)
-  over-Q = record {
-    node = Q;
-    not-i = x .free-j;
-    not-j = not-own-parent v j J (x .under-j);
-    over-i = x .low-i;
-    over-j = v .dated .ordered j J (x .under-j);
-  }
+  beside-Q : Beside (parent t j)
+  beside-Q = record { node = Q; out-i = x .free-j; out-j = not-under v j J (x .under-j) itself }
 
   -- every node has a way up
   ways : {k : ℕ} → Reach t k → k < n → Reach (swap n t i j) k
@@ -122,8 +96,8 @@ module _ {n : ℕ} {t : Tree} (v : Valid n t) (st : Strict n t) (i j : ℕ) (x :
   ways (up {k} d r) K = step (among2 i j k) K d (ways r (v .below k K d .parent-node))
     where
       step : {k : ℕ} → Among2 i j k → k < n → k ≢ t .root → Reach (swap n t i j) (parent t k) → Reach (swap n t i j) k
-      step is-a K d w = up (λ e. d (e ∙ root)) (rw (parent-i v i j I J) (high (v .joined (parent t j) Q) over-Q))
-      step (is-b z) K d w = up (λ e. d (e ∙ root)) (rw (parent-j v i j I J) (high (v .joined (parent t i) P) over-P))
+      step is-a K d w = up (λ e. d (e ∙ root)) (rw (parent-i v i j I J) (high (v .joined (parent t j) Q) beside-Q))
+      step (is-b z) K d w = up (λ e. d (e ∙ root)) (rw (parent-j v i j I J) (high (v .joined (parent t i) P) beside-P))
       step (other {u = k} a b) K d w = up (λ e. d (e ∙ root)) (rw (parent-kept v i j I J k K a b) w)
 
   -- no node is above the parent that it has now
@@ -134,7 +108,7 @@ module _ {n : ℕ} {t : Tree} (v : Valid n t) (st : Strict n t) (i j : ℕ) (x :
 
   dates : Dated n (swap n t i j)
   dates = record {
-    number = λ c C. rw (height-swap n t i j c) (N c C);
+    number = λ c C. rw (height-swap n t i j c) (v .dated .number c C);
     positive = λ c C. rw (height-swap n t i j c) (v .dated .positive c C);
     ordered = λ c C d. rw (height-swap n t i j c, height-swap n t i j (parent (swap n t i j) c)) (order (among2 i j c) C (λ e. d (e ∙ sym root)));
   }

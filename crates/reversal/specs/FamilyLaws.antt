@@ -1,7 +1,7 @@
 -- Parents, children and siblings in a tree that is linked. In order: a shape is linked (`shaped-linked`), and no tip is a parent (`tip-apart`);
 -- the other child of a node's parent (`Sibling`, `sibling-is`), and that there is no third (`sibling-only`); heights of the nodes under a node
--- (`under-le`), nodes told apart by their heights (`differ`), and the sibling's where every child is strictly younger (`sibling-below`). Assumes
--- nothing.
+-- (`under-le`, `not-over`), nodes told apart by their heights (`differ`), and the sibling's where every child is strictly younger
+-- (`sibling-below`). Assumes nothing.
 use mathlib.Core.Path.{_≡_, sym, _∙_, subst}
 use mathlib.Core.Logic.{_≢_, _⊎_, inl, inr}
 use Prim.Native.Nat.{ℕ, _+_, _≤_, _<_}
@@ -9,7 +9,7 @@ use native.Mathlib.Omega.{arith}
 use borrow.Author.Tests.{eq-eqb, ne-eqb}
 use lib.Dec.{T}
 use lib.Ieee.{lt, le}
-use Rattle.real.specs.OrderLaws.{lt-irrefl, le-refl, le-trans}
+use Rattle.real.specs.OrderLaws.{lt-irrefl, lt-le-absurd, le-refl, le-trans}
 use Rattle.tree.specs.Tree.{Tree, first, second, parent, height, sibling}
 use Rattle.tree.specs.Valid.{Inner, Valid, Strict}
 use Rattle.accepted.specs.Ways.{Linked, Under, itself, through}
@@ -93,6 +93,10 @@ under-le {n} {t} v (through {c} {k} C′ d u) C =
     let P : parent t c < n = v .below c C d .parent-node in
     let r = under-le v u P in
     (r .0, le-trans _ _ _ (v .dated .number c C) (v .dated .number (parent t c) P) (v .dated .number k (r .0)) (v .dated .ordered c C d) (r .1))
+
+-- a node that is strictly higher than another is not under it
+pub not-over : {n : ℕ} {t : Tree} → Valid n t → (a c : ℕ) → a < n → c < n → T (lt (height t a) (height t c)) → Under n t c a → ⊥
+not-over {n} {t} v a c A C h u = lt-le-absurd (height t a) (height t c) (v .dated .number a A) (v .dated .number c C) h (under-le v u C .1)
 
 -- a node above another is another node
 pub differ : (t : Tree) (a k : ℕ) → T (lt (height t a) (height t k)) → k ≢ a

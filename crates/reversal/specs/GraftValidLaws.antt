@@ -1,6 +1,6 @@
--- A tree in which a node's parent went onto another branch is valid, if the branch's upper end is not under the node (`grafted-valid`), as it is not
--- where every child is strictly younger than its parent (`graft-valid`). In order: the ways up to the root from the three nodes that moved, and
--- with them from all; the ways from nodes that are not under the node; the heights, which do not fall on these ways. Assumes nothing.
+-- A tree in which a node's parent went onto another branch is valid, whatever the heights of children, if the branch's upper end is not under the
+-- node (`graft-valid`). In order: the ways up to the root from the three nodes that moved, and with them from all; the ways from nodes that are not
+-- under the node; the heights, which do not fall on these ways. Assumes nothing.
 use mathlib.Core.Path.{_≡_, refl, sym, _∙_, subst}
 use mathlib.Core.Logic.{_≢_}
 use mathlib.Core.Bool.{not}
@@ -10,16 +10,15 @@ use lib.Dec.{T}
 use lib.Ieee.{Float, lt, le}
 use lib.Ieee.Scale.{finite}
 use Rattle.real.specs.Real as Real
-use Rattle.real.specs.OrderLaws.{le-trans, lt-le-trans, lt-le-absurd}
+use Rattle.real.specs.OrderLaws.{le-trans, not-negative}
 use Rattle.tree.specs.Tree.{Tree, parent, height, sibling}
-use Rattle.tree.specs.Valid.{Reach, here, up, Dated, Valid, Strict}
+use Rattle.tree.specs.Valid.{Reach, here, up, Dated, Valid}
 use Rattle.accepted.specs.Ways.{Under, itself, through}
 use Rattle.accepted.specs.WayLaws.{valid-linked, not-under}
 use Rattle.edits.specs.SlotLaws.{shaped-valid, not-own-parent}
 use Rattle.edits.specs.TurnLaws.{Among3, is-a, is-b, is-c, other, among3}
 use Rattle.rules.specs.Rules.{regraft}
-use Rattle.reversal.specs.FamilyLaws.{sibling-only, under-le}
-use Rattle.reversal.specs.DatedLaws.{not-negative}
+use Rattle.reversal.specs.FamilyLaws.{sibling-only}
 use Rattle.reversal.specs.GraftLaws.{Grafts, graft-kin, graft-parent-node, graft-three, graft-shaped, graft-lower, graft-old-sibling, graft-parent, graft-other, graft-height, graft-at, graft-root-same, graft-root-sibling, graft-root-parent, graft-under, graft-sibling-under, graft-parent-under}
 
 module _ {n : ℕ} {t : Tree} (v : Valid n t) {i j : ℕ} (g : Grafts n t i j) (x : Float) where
@@ -178,21 +177,5 @@ module _ {n : ℕ} {t : Tree} (v : Valid n t) {i j : ℕ} (g : Grafts n t i j) (
 
     -- the parent may go to a finite height no lower than i and j and no higher than the branch's upper end, which is not under i, where there is
     -- one
-    pub grafted-valid : Valid n (regraft n t i j x)
-    grafted-valid = shaped-valid (graft-shaped v g x) joined dated
-
-  -- and where every child is strictly younger than its parent, to a branch whose upper end is not i: such an end is not under i, being no lower
-  pub graft-valid : Strict n t → T (finite x) → T (le (height t i) x) → T (le (height t j) x)
-      → (j ≢ t .root → T (le x (height t (parent t j)))) → (j ≢ t .root → parent t j ≢ i) → Valid n (regraft n t i j x)
-  graft-valid st X a b h l = grafted-valid X a b h (λ d u. out d (v .below j (g .node-j) d .parent-node) u)
-    where
-      out : j ≢ t .root → parent t j < n → Under n t (parent t j) i → ⊥
-      out d Q u = go u Q (λ e. l d (sym e)) (le-trans (height t i) x (height t (parent t j)) (v .dated .number i (g .node-i)) X (v .dated .number (parent t j) Q) a (h d))
-        where
-          go : {c k : ℕ} → Under n t c k → c < n → k ≢ c → T (le (height t k) (height t c)) → ⊥
-          go itself C ne y = ne refl
-          go (through {c} {k} C d u) C′ ne y =
-              let P : parent t c < n = v .below c C d .parent-node in
-              let r = under-le v u P in
-              lt-le-absurd (height t c) (height t k) (v .dated .number c C) (v .dated .number k (r .0))
-              (lt-le-trans (height t c) (height t (parent t c)) (height t k) (v .dated .number c C) (v .dated .number (parent t c) P) (v .dated .number k (r .0)) (st c C d) (r .1)) y
+    pub graft-valid : Valid n (regraft n t i j x)
+    graft-valid = shaped-valid (graft-shaped v g x) joined dated

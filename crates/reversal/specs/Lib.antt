@@ -1,4 +1,5 @@
--- Demand 3: Reversed says what it asks, Reversal that it is so. Back asks the same of one choice on a valid tree; the rest are laws.
+-- Demand 3: Reversed says what it asks, Reversal that it is so, and that every reversible move keeps a tree valid. Back asks the same of one choice on a
+-- valid tree; the rest are laws.
 pub mod Reversed
 pub mod Back
 pub mod FailedLaws
@@ -14,6 +15,7 @@ pub mod GraftValidLaws
 pub mod WilsonLaws
 pub mod BranchLaws
 pub mod SlideWayLaws
+pub mod SlideValidLaws
 pub mod SlideHeightLaws
 pub mod SlideOntoLaws
 pub mod SlideUpLaws

@@ -1,7 +1,8 @@
--- NarrowExchange is taken back by the same grandparent and side (`narrow-reverses`). In order: which of a node's two children is the taller
--- (`Seated`, `told`); a grandparent, its two children and a child of the taller (`Nest`), where that child and the uncle may change places; the
--- tree made, where the taller child is the same node, the uncle is the child that went up, since it is strictly below its parent, and the old
--- uncle is on the side where that child was; and the whole. Assumes nothing.
+-- NarrowExchange keeps a tree valid (`narrow-keeps`) and, where every child is strictly younger than its parent, is taken back by the same
+-- grandparent and side (`narrow-reverses`). In order: which of a node's two children is the taller (`Seated`, `told`); a grandparent, its two
+-- children and a child of the taller (`Nest`), where that child and the uncle may change places; the tree made, where the taller child is the
+-- same node, the uncle is the child that went up, since it is strictly below its parent, and the old uncle is on the side where that child was; and
+-- the whole. Assumes nothing.
 use mathlib.Core.Path.{_≡_, refl, sym, ap, _∙_, subst}
 use mathlib.Core.Logic.{_≢_}
 use mathlib.Core.Bool.{Bool, true, false, not, _||_, cond, or-true}
@@ -12,16 +13,18 @@ use lib.Ieee.{lt, le}
 use lib.Ieee.Bits.{is-true}
 use lib.Ieee.Fits.{and-l}
 use lib.Ieee.Scale.{finite}
-use Rattle.real.specs.OrderLaws.{lt→le, lt-trans}
+use Rattle.real.specs.OrderLaws.{lt→le, le-trans}
 use Rattle.tree.specs.Tree.{Tree, inner, first, second, parent, height}
 use Rattle.tree.specs.Valid.{Inner, Valid, Strict}
+use Rattle.accepted.specs.Ways.{Under, itself, through}
+use Rattle.accepted.specs.WayLaws.{not-under}
 use Rattle.edits.specs.Slots.{swap}
 use Rattle.edits.specs.SlotLaws.{valid-shaped, not-root}
 use Rattle.edits.specs.TurnLaws.{turn2, turn2-a, turn2-b, turn2-other, height-swap, first-swap, second-swap, swap-back, swap-comm}
 use Rattle.rules.specs.Rules.{oneInternal, grand, taller, uncle, sideOf, NarrowListed, narrowDeclines, narrowed, narrowRatio}
 use Rattle.rules.specs.Moves.{NarrowExchange}
 use Rattle.reversal.specs.Reversed.{Turned, counts}
-use Rattle.reversal.specs.Back.{Reverses}
+use Rattle.reversal.specs.Back.{Keeps, Reverses}
 use Rattle.reversal.specs.FamilyLaws.{differ}
 use Rattle.reversal.specs.FailedLaws.{passed, or-first, or-second, lt-false, le-nlt}
 use Rattle.reversal.specs.ExchangeLaws.{Exchangeable, swap-valid}
@@ -139,7 +142,7 @@ nest {n} {t} v g coin l e = record {
     c : (sideOf t coin (taller t g) < n) × (parent t (sideOf t coin (taller t g)) ≡ taller t g)
     c = side-child (v .inner (taller t g) (kids i (seated t g) .node-P) P) coin
 
-module _ {n : ℕ} {t : Tree} (v : Valid n t) (st : Strict n t) {g P w c : ℕ} (x : Nest n t g P w c) where
+module _ {n : ℕ} {t : Tree} (v : Valid n t) {g P w c : ℕ} (x : Nest n t g P w c) where
   -- P and w as children of g
   k : Kids n t g P w
   k = kids (v .inner g (x .node-g) (x .inner-g)) (x .seats)
@@ -147,81 +150,99 @@ module _ {n : ℕ} {t : Tree} (v : Valid n t) (st : Strict n t) {g P w c : ℕ} 
   N : (a : ℕ) → a < n → T (finite (height t a))
   N = v .dated .number
 
-  -- a node that has a parent is strictly below it
-  under : (a b : ℕ) → a < n → b < n → parent t a ≡ b → T (lt (height t a) (height t b))
-  under a b A B e = subst (λ (m : ℕ). T (lt (height t a) (height t m))) e (st a A (not-root v a b B e))
+  under-c : c ≢ t .root
+  under-c = not-root v c P (k .node-P) (x .parent-c)
 
-  c-under-P : T (lt (height t c) (height t P))
-  c-under-P = under c P (x .node-c) (k .node-P) (x .parent-c)
+  under-P : P ≢ t .root
+  under-P = not-root v P g (x .node-g) (k .parent-P)
 
-  P-under-g : T (lt (height t P) (height t g))
-  P-under-g = under P g (k .node-P) (x .node-g) (k .parent-P)
+  under-w : w ≢ t .root
+  under-w = not-root v w g (x .node-g) (k .parent-w)
 
-  c-under-g : T (lt (height t c) (height t g))
-  c-under-g = lt-trans (height t c) (height t P) (height t g) (N c (x .node-c)) (N P (k .node-P)) (N g (x .node-g)) c-under-P P-under-g
+  -- g is above P
+  P-under-g : Under n t P g
+  P-under-g = through {k = g} (k .node-P) under-P (rw (k .parent-P) itself)
+
+  -- P is another child of g than w, so it is not under that
+  beside-w : {m : ℕ} → Under n t m w → m ≡ P → ⊥
+  beside-w itself e = k .apart (sym e)
+  beside-w (through C d u) e =
+      not-under v w (k .node-w) under-w (rw (k .parent-w) itself) (subst (λ (m : ℕ). Under n t m w) (ap (parent t) e ∙ k .parent-P) u)
+
+  -- a node that has a parent is not above it
+  under : (a b : ℕ) → a < n → b < n → parent t a ≡ b → T (le (height t a) (height t b))
+  under a b A B e = subst (λ (m : ℕ). T (le (height t a) (height t m))) e (v .dated .ordered a A (not-root v a b B e))
+
+  c-low : T (le (height t c) (height t g))
+  c-low = le-trans (height t c) (height t P) (height t g) (N c (x .node-c)) (N P (k .node-P)) (N g (x .node-g))
+      (under c P (x .node-c) (k .node-P) (x .parent-c)) (under P g (k .node-P) (x .node-g) (k .parent-P))
 
   -- the child and the uncle may change places
   exchangeable : Exchangeable n t c w
   exchangeable = record {
     node-i = x .node-c;
     node-j = k .node-w;
-    under-i = not-root v c P (k .node-P) (x .parent-c);
-    under-j = not-root v w g (x .node-g) (k .parent-w);
-    free-i = λ e. k .apart (sym (x .parent-c) ∙ e);
-    free-j = λ e. differ t c g c-under-g (sym (k .parent-w) ∙ e);
-    low-i = rw (k .parent-w) (lt→le (height t c) (height t g) c-under-g);
+    under-i = under-c;
+    under-j = under-w;
+    free-i = λ u. beside-w u (x .parent-c);
+    free-j = λ u. not-under v c (x .node-c) under-c (rw (x .parent-c) P-under-g) (rw (k .parent-w) at u);
+    low-i = rw (k .parent-w) c-low;
     low-j = rw (x .parent-c) (x .below-P);
   }
 
-  -- ---- the tree made
+  valid : Valid n (swap n t c w)
+  valid = swap-valid v c w exchangeable
 
-  abbrev u : Tree
-  u = swap n t c w
+  -- ---- the tree made, where every child is strictly younger than its parent
 
-  valid : Valid n u
-  valid = swap-valid v st c w exchangeable
+  module _ (st : Strict n t) where
+    c-under-P : T (lt (height t c) (height t P))
+    c-under-P = subst (λ (m : ℕ). T (lt (height t c) (height t m))) (x .parent-c) (st c (x .node-c) under-c)
 
-  -- P stays on its side of g, and c takes the uncle's
-  seats-after : Seated u g P c
-  seats-after = go (x .seats)
-    where
-      f : first u g ≡ turn2 c w (first t g)
-      f = first-swap (valid-shaped v) c w (x .node-c) (k .node-w) g (x .node-g) (x .inner-g)
+    abbrev u : Tree
+    u = swap n t c w
 
-      s : second u g ≡ turn2 c w (second t g)
-      s = second-swap (valid-shaped v) c w (x .node-c) (k .node-w) g (x .node-g) (x .inner-g)
+    -- P stays on its side of g, and c takes the uncle's
+    seats-after : Seated u g P c
+    seats-after = go (x .seats)
+      where
+        f : first u g ≡ turn2 c w (first t g)
+        f = first-swap (valid-shaped v) c w (x .node-c) (k .node-w) g (x .node-g) (x .inner-g)
 
-      stays : turn2 c w P ≡ P
-      stays = turn2-other c w P (differ t c P c-under-P) (k .apart)
+        s : second u g ≡ turn2 c w (second t g)
+        s = second-swap (valid-shaped v) c w (x .node-c) (k .node-w) g (x .node-g) (x .inner-g)
 
-      go : Seated t g P w → Seated u g P c
-      go (first-seat p q) = first-seat (f ∙ ap (turn2 c w) p ∙ stays) (s ∙ ap (turn2 c w) q ∙ turn2-b c w)
-      go (second-seat p q) = second-seat (f ∙ ap (turn2 c w) p ∙ turn2-b c w) (s ∙ ap (turn2 c w) q ∙ stays)
+        stays : turn2 c w P ≡ P
+        stays = turn2-other c w P (differ t c P c-under-P) (k .apart)
 
-  -- P is the taller child still, and c the uncle
-  told-after : (taller u g ≡ P) × (uncle u g ≡ c)
-  told-after = told u g P c seats-after (valid .dated .number P (k .node-P)) (valid .dated .number c (x .node-c))
-      (rw (height-swap n t c w c, height-swap n t c w P) c-under-P)
+        go : Seated t g P w → Seated u g P c
+        go (first-seat p q) = first-seat (f ∙ ap (turn2 c w) p ∙ stays) (s ∙ ap (turn2 c w) q ∙ turn2-b c w)
+        go (second-seat p q) = second-seat (f ∙ ap (turn2 c w) p ∙ turn2-b c w) (s ∙ ap (turn2 c w) q ∙ stays)
 
-  -- the old uncle is on the side where c was
-  side-after : (coin : Bool) → sideOf t coin P ≡ c → sideOf u coin P ≡ w
-  side-after true e = first-swap (valid-shaped v) c w (x .node-c) (k .node-w) P (k .node-P) (x .inner-P) ∙ ap (turn2 c w) e ∙ turn2-a c w
-  side-after false e = second-swap (valid-shaped v) c w (x .node-c) (k .node-w) P (k .node-P) (x .inner-P) ∙ ap (turn2 c w) e ∙ turn2-a c w
+    -- P is the taller child still, and c the uncle
+    told-after : (taller u g ≡ P) × (uncle u g ≡ c)
+    told-after = told u g P c seats-after (valid .dated .number P (k .node-P)) (valid .dated .number c (x .node-c))
+        (rw (height-swap n t c w c, height-swap n t c w P) c-under-P)
 
-  -- g is listed still
-  listed : NarrowListed n u g
-  listed = record { node = x .node-g; grandparent = is-grand (x .inner-g) (x .inner-P) seats-after }
+    -- the old uncle is on the side where c was
+    side-after : (coin : Bool) → sideOf t coin P ≡ c → sideOf u coin P ≡ w
+    side-after true e = first-swap (valid-shaped v) c w (x .node-c) (k .node-w) P (k .node-P) (x .inner-P) ∙ ap (turn2 c w) e ∙ turn2-a c w
+    side-after false e = second-swap (valid-shaped v) c w (x .node-c) (k .node-w) P (k .node-P) (x .inner-P) ∙ ap (turn2 c w) e ∙ turn2-a c w
 
-  -- and the move is not declined
-  free : oneInternal n ≡ false → narrowDeclines n u g ≡ false
-  unfolding narrowDeclines
-  free e = rw (e, told-after .0, lt-ltb n (P + P) (x .inner-P))
+    -- g is listed still
+    listed : NarrowListed n u g
+    listed = record { node = x .node-g; grandparent = is-grand (x .inner-g) (x .inner-P) seats-after }
 
-  -- the two change places again
-  undone : (coin : Bool) → sideOf t coin P ≡ c → narrowed n u g coin ≡ t
-  unfolding narrowed
-  undone coin e = rw (told-after .0, told-after .1, side-after coin e)
-      (swap-comm (valid-shaped valid) c w (x .node-c) (k .node-w) ∙ swap-back (valid-shaped v) c w (x .node-c) (k .node-w))
+    -- and the move is not declined
+    free : oneInternal n ≡ false → narrowDeclines n u g ≡ false
+    unfolding narrowDeclines
+    free e = rw (e, told-after .0, lt-ltb n (P + P) (x .inner-P))
+
+    -- the two change places again
+    undone : (coin : Bool) → sideOf t coin P ≡ c → narrowed n u g coin ≡ t
+    unfolding narrowed
+    undone coin e = rw (told-after .0, told-after .1, side-after coin e)
+        (swap-comm (valid-shaped valid) c w (x .node-c) (k .node-w) ∙ swap-back (valid-shaped v) c w (x .node-c) (k .node-w))
 
 -- ---- the whole
 
@@ -231,17 +252,21 @@ turned : (n : ℕ) (t : Tree) (g : ℕ) (coin : Bool) → narrowed n (narrowed n
 unfolding narrowRatio
 turned n t g coin e = rw e counts
 
+-- the tree made is valid, with the tips' ages
+pub narrow-keeps : Keeps NarrowExchange
+unfolding narrowed
+narrow-keeps n t v c l e = record { valid = valid v (nest v (c .node) (c .coin) l e); tips = λ k h. height-swap n t _ _ k }
+
 -- NarrowExchange of the same grandparent, on the same side, takes it back
 pub narrow-reverses : Reverses NarrowExchange
 unfolding narrowed narrowDeclines
 narrow-reverses n t v st c l e =
     let x = nest v (c .node) (c .coin) l e in
-    let back = undone v st x (c .coin) refl in
+    let back = undone v x st (c .coin) refl in
     record {
-      valid = valid v st x;
-      tips = λ k h. height-swap n t _ _ k;
-      listed = listed v st x;
-      free = free v st x (or-first (oneInternal n) (not (inner n (taller t (c .node)))) e);
+      kept = narrow-keeps n t v c l e;
+      listed = listed v x st;
+      free = free v x st (or-first (oneInternal n) (not (inner n (taller t (c .node)))) e);
       tree = back;
       ratio = turned n t (c .node) (c .coin) back;
     }

@@ -1,5 +1,5 @@
--- NodeHeight is taken back by the node's old height (`node-height-reverses`): the new height lies between those of the children and of the
--- parent, and these keep theirs, between which the old one lay. Assumes nothing.
+-- NodeHeight keeps a tree valid (`node-height-keeps`) and is taken back by the node's old height (`node-height-reverses`): the new height lies between
+-- those of the children and of the parent, and these keep theirs, between which the old one lay. Assumes nothing.
 use mathlib.Core.Path.{_≡_, sym, ap, _∙_, subst}
 use mathlib.Core.Logic.{_≢_}
 use Prim.Native.Nat.{ℕ, _+_, _<_}
@@ -17,7 +17,7 @@ use Rattle.rules.specs.Rules.{floor, NodeHeightListed}
 use Rattle.rules.specs.Moves.{NodeHeight}
 use Rattle.reversal.specs.IntervalLaws.{within-low, within-high, within-is, within-finite}
 use Rattle.reversal.specs.Reversed.{even}
-use Rattle.reversal.specs.Back.{Reverses}
+use Rattle.reversal.specs.Back.{Keeps, Reverses}
 use Rattle.reversal.specs.DatedLaws.{set-valid}
 
 module _ {n : ℕ} {t : Tree} (v : Valid n t) (k : ℕ) (x : Float) (l : NodeHeightListed n t k x) where
@@ -67,11 +67,17 @@ module _ {n : ℕ} {t : Tree} (v : Valid n t) (k : ℕ) (x : Float) (l : NodeHei
             (rw (set-parent t k x k, height-other t k x (parent t k) own) (v .dated .ordered k (l .node) (l .under)));
       }
 
+-- the tree made is valid, with the tips' ages
+pub node-height-keeps : Keeps NodeHeight
+node-height-keeps n t v c l free = record {
+  valid = valid v (c .node) (c .height) l;
+  tips = λ k h. height-other t (c .node) (c .height) k (let i : n < c .node + c .node = l .internal in omega arith);
+}
+
 -- NodeHeight with the old height takes it back
 pub node-height-reverses : Reverses NodeHeight
 node-height-reverses n t v st c l free = record {
-  valid = valid v (c .node) (c .height) l;
-  tips = λ k h. height-other t (c .node) (c .height) k (let i : n < c .node + c .node = l .internal in omega arith);
+  kept = node-height-keeps n t v c l free;
   listed = listed v (c .node) (c .height) l;
   free = free;
   tree = set-back t (c .node) (c .height);

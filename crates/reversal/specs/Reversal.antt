@@ -1,5 +1,6 @@
 -- Demand 3: what a reversible move makes of an accepted tree with every child strictly younger than its parent is accepted, has the same tips
--- at the same ages, and is taken back by the same move with the ratio turned over (`reversal`). Assumes nothing.
+-- at the same ages, and is taken back by the same move with the ratio turned over (`reversal`). What it makes of any accepted tree, ties included, is
+-- valid, with the same tips at the same ages (`makes-kept`). Assumes nothing.
 use mathlib.Core.Path.{_≡_, sym, ap, subst}
 use mathlib.Core.Bool.{false}
 use Prim.Native.Nat.{ℕ}
@@ -12,14 +13,23 @@ use Rattle.accepted.specs.WayLaws.{valid-nodes}
 use Rattle.accepted.specs.AcceptedLaws.{accepted-valid, valid-accepted}
 use Rattle.rules.specs.Moves.{Reversible, NodeHeight, SubtreeSlide, NarrowExchange, WideExchange, WilsonBalding, Choice, Listed, declines, made, ratioOf, Makes}
 use Rattle.reversal.specs.Reversed.{returning, Reversed}
-use Rattle.reversal.specs.Back.{Back, Reverses}
-use Rattle.reversal.specs.NodeHeightLaws.{node-height-reverses}
+use Rattle.reversal.specs.Back.{Kept, Keeps, Back, Reverses}
+use Rattle.reversal.specs.NodeHeightLaws.{node-height-keeps, node-height-reverses}
+use Rattle.reversal.specs.SlideValidLaws.{slide-keeps}
 use Rattle.reversal.specs.SlideLaws.{slide-reverses}
-use Rattle.reversal.specs.NarrowLaws.{narrow-reverses}
-use Rattle.reversal.specs.WideLaws.{wide-reverses}
-use Rattle.reversal.specs.WilsonLaws.{wilson-reverses}
+use Rattle.reversal.specs.NarrowLaws.{narrow-keeps, narrow-reverses}
+use Rattle.reversal.specs.WideLaws.{wide-keeps, wide-reverses}
+use Rattle.reversal.specs.WilsonLaws.{wilson-keeps, wilson-reverses}
 
--- each move, on a valid tree
+-- each move keeps a valid tree
+keeps : (m : Reversible) → Keeps m
+keeps NodeHeight = node-height-keeps
+keeps SubtreeSlide = slide-keeps
+keeps NarrowExchange = narrow-keeps
+keeps WideExchange = wide-keeps
+keeps WilsonBalding = wilson-keeps
+
+-- and is taken back on a strictly dated one
 reverses : (m : Reversible) → Reverses m
 reverses NodeHeight = node-height-reverses
 reverses SubtreeSlide = slide-reverses
@@ -31,8 +41,8 @@ reverses WilsonBalding = wilson-reverses
 reversed : (m : Reversible) (t : Tree) (c : Choice m) → Back (nodesOf (t .pairs)) m t c
     → Reversed m t c (made (nodesOf (t .pairs)) m t c) (ratioOf (nodesOf (t .pairs)) m t c)
 reversed m t c b = record {
-  accepted = valid-accepted n u (b .valid);
-  tips = record { nodes = e; ages = λ k h. b .tips k (omega arith) };
+  accepted = valid-accepted n u (b .kept .valid);
+  tips = record { nodes = e; ages = λ k h. b .kept .tips k (omega arith) };
   ratio = ratioOf n m u (returning m t c);
   turned = b .ratio;
   back = record {
@@ -50,7 +60,7 @@ reversed m t c b = record {
     u = made (nodesOf (t .pairs)) m t c
 
     e : nodesOf (u .pairs) ≡ n
-    e = valid-nodes (b .valid)
+    e = valid-nodes (b .kept .valid)
 
 -- for every accepted tree t with every child strictly younger than its parent, every move and every choice that it admits on t
 pub reversal : (t : Tree) → Accepted t → Strict (nodesOf (t .pairs)) t
@@ -58,3 +68,7 @@ pub reversal : (t : Tree) → Accepted t → Strict (nodesOf (t .pairs)) t
 reversal t a st m c u r k =
     let b = reverses m (nodesOf (t .pairs)) t (accepted-valid t a) st c (k .listed) (k .free) in
     subst (λ (w : Tree). Reversed m t c w r) (k .tree) (subst (λ (q : Ratio). Reversed m t c (made (nodesOf (t .pairs)) m t c) q) (k .ratio) (reversed m t c b))
+
+-- for every accepted tree t, ties included, every move and every choice that it admits on t: the tree made is valid, with the tips' ages
+pub makes-kept : (t : Tree) → Accepted t → (m : Reversible) (c : Choice m) (u : Tree) (r : Ratio) → Makes m t c u r → Kept (nodesOf (t .pairs)) t u
+makes-kept t a m c u r k = subst (Kept (nodesOf (t .pairs)) t) (k .tree) (keeps m (nodesOf (t .pairs)) t (accepted-valid t a) c (k .listed) (k .free))

@@ -1,6 +1,6 @@
--- A slide downwards onto a branch under the sibling. In order: the branch's ends; the way up from P to the old sibling in the tree
--- made; and that the returning slide goes it (`down-returns`). Assumes nothing.
-use mathlib.Core.Path.{_≡_, refl, sym, _∙_, subst}
+-- A slide downwards onto a branch under the sibling, in a strictly dated tree. In order: the branch's ends; the way up from P to the old sibling in the
+-- tree made; and that the returning slide goes it (`down-returns`). Assumes nothing.
+use mathlib.Core.Path.{_≡_, refl, sym, subst}
 use mathlib.Core.Logic.{_≢_, _⊎_, inl, inr}
 use mathlib.Core.Bool.{not}
 use Prim.Native.Nat.{ℕ, _<_}
@@ -11,23 +11,18 @@ use lib.Ieee.{Float, lt, le}
 use lib.Ieee.Bits.{is-true}
 use lib.Ieee.Scale.{finite}
 use Rattle.answer.specs.declared.Ratio.the-variants.{Counts}
-use Rattle.real.specs.OrderLaws.{lt-irrefl, lt→le, lt-trans, lt-le-trans, le-lt-trans, lt-le-absurd, nlt→le}
+use Rattle.real.specs.OrderLaws.{lt-trans, lt-le-trans, le-lt-trans}
 use Rattle.tree.specs.Tree.{Tree, parent, height, sibling}
 use Rattle.tree.specs.Valid.{Valid}
 use Rattle.accepted.specs.Ways.{Under, itself, through}
 use Rattle.rules.specs.Rules.{regraft, branches}
 use Rattle.reversal.specs.FamilyLaws.{under-le, differ}
 use Rattle.reversal.specs.GraftLaws.{Grafts, graft-node, graft-old-sibling, graft-parent, graft-other, graft-height, graft-root-sibling, graft-under, graft-parent-under}
-use Rattle.reversal.specs.GraftValidLaws.{graft-valid}
 use Rattle.reversal.specs.BranchLaws.{Climb, stops, goes, Branch}
 use Rattle.reversal.specs.SlideWayLaws.{Slides, up, backIndex, Returns}
-use Rattle.reversal.specs.SlideHeightLaws.{Sliding, parent-node, sibling-kin, number-parent, number-sibling, sibling-low, grand-apart, old-under-grand}
+use Rattle.reversal.specs.SlideValidLaws.{down-grafts, down-valid}
+use Rattle.reversal.specs.SlideHeightLaws.{Sliding, number-parent, number-sibling, sibling-low, grand-apart, old-under-grand}
 use Rattle.reversal.specs.SlideOntoLaws.{onto-height, returns-up}
-
--- a node under another has its parent under that too
-under-next : {n : ℕ} {t : Tree} {m k : ℕ} → Under n t m k → m ≢ k → Under n t (parent t m) k
-under-next itself d = absurd (d refl)
-under-next (through C r u) d = u
 
 -- ---- back up
 
@@ -53,36 +48,21 @@ module _ {n : ℕ} {t : Tree} {i : ℕ} {x : Float} (g : Sliding n t i x) (low :
   lower-low : T (lt (height t j) (height t (parent t i)))
   lower-low = lt-trans _ _ _ (number j (b .node)) (g .number) (number-parent g) (b .lower) x-under
 
-  -- and the upper end is not i, since i is not under its sibling
-  upper-apart : parent t j ≢ i
-  upper-apart e =
-      let u : Under n t (parent t (parent t j)) (sibling t i) = under-next (b .under) (λ f. sibling-kin g .apart (sym f ∙ e)) in
-      let h = under-le (g .valid) (subst (λ (m : ℕ). Under n t (parent t m) (sibling t i)) e u) (parent-node g) .1 in
-      lt-le-absurd _ _ (number-sibling g) (number-parent g) (sibling-low g) h
-
   -- P goes onto another branch than its own
-  pub down-grafts : Grafts n t i j
-  down-grafts = record {
-    node-i = g .node;
-    under-i = g .under;
-    node-j = b .node;
-    not-i = λ e. lt-irrefl (height t (parent t i)) (subst (λ (m : ℕ). T (lt (height t (parent t m)) (height t (parent t i)))) e upper-low);
-    not-parent = λ e. differ t j (parent t i) lower-low (sym e);
-    not-sibling = λ e. differ t j (sibling t i) (lt-trans _ _ _ (number j (b .node)) (g .number) (number-sibling g) (b .lower) s) (sym e);
-  }
+  grafts : Grafts n t i j
+  grafts = down-grafts (g .valid) (g .node) (g .under) (g .number) low s b
 
   valid : Valid n (regraft n t i j x)
-  valid = graft-valid (g .valid) down-grafts x (g .strict) (g .number) low (lt→le (height t j) x (b .lower))
-      (λ r. nlt→le (height t (parent t j)) x (number (parent t j) upper-node) (g .number) (b .upper)) (λ r. upper-apart)
+  valid = down-valid (g .valid) (g .node) (g .under) (g .number) low s b
 
   -- in the tree made the old sibling is the root, or under a node that is not below P's old height
   ends : (sibling t i ≡ (regraft n t i j x) .root)
       ⊎ T (not (lt (height (regraft n t i j x) (parent (regraft n t i j x) (sibling t i))) (height t (parent t i))))
   ends = elim (ℕ-discrete (parent t i) (t .root)) [
-    | yes e ↦ inl (sym (graft-root-sibling (g .valid) down-grafts x e))
+    | yes e ↦ inl (sym (graft-root-sibling (g .valid) grafts x e))
     | no d ↦
-        let kept = graft-height (g .valid) down-grafts x (parent t (parent t i)) (grand-apart g d) in
-        inr (rw (graft-old-sibling (g .valid) down-grafts x, kept) (old-under-grand g d))
+        let kept = graft-height (g .valid) grafts x (parent t (parent t i)) (grand-apart g d) in
+        inr (rw (graft-old-sibling (g .valid) grafts x, kept) (old-under-grand g d))
   ]
 
   -- from a node above j and under the old sibling it leads up to that
@@ -97,22 +77,22 @@ module _ {n : ℕ} {t : Tree} {i : ℕ} {x : Float} (g : Sliding n t i x) (low :
       let a : m ≢ sibling t i = λ f. differ t m (sibling t i) low (sym f) in
       let lower = lt-trans _ _ _ (number m M) (number-sibling g) (number-parent g) low (sibling-low g) in
       let c : m ≢ parent t i = λ f. differ t m (parent t i) lower (sym f) in
-      let o = graft-other (g .valid) down-grafts x m M a c (differ t j m h) in
-      goes {j = sibling t i} (graft-under (g .valid) down-grafts x m r a c)
-      (rw (o, graft-height (g .valid) down-grafts x (parent t m) (λ f. differ t (parent t m) (parent t i) next (sym f))) next)
+      let o = graft-other (g .valid) grafts x m M a c (differ t j m h) in
+      goes {j = sibling t i} (graft-under (g .valid) grafts x m r a c)
+      (rw (o, graft-height (g .valid) grafts x (parent t m) (λ f. differ t (parent t m) (parent t i) next (sym f))) next)
       (rw o (rise u e P (lt-trans _ _ _ (number j (b .node)) (number m M) (number (parent t m) P) h (g .strict m M r))))
 
   -- so it does from P, over the branch's upper end
   from-parent : Climb (regraft n t i j x) (height t (parent t i)) (parent t i) (sibling t i)
   from-parent =
-      let p = graft-parent (g .valid) down-grafts x in
-      goes {j = sibling t i} (graft-parent-under (g .valid) down-grafts x (b .under-root))
-      (rw (p, graft-height (g .valid) down-grafts x (parent t j) (λ f. differ t (parent t j) (parent t i) upper-low (sym f))) upper-low)
+      let p = graft-parent (g .valid) grafts x in
+      goes {j = sibling t i} (graft-parent-under (g .valid) grafts x (b .under-root))
+      (rw (p, graft-height (g .valid) grafts x (parent t j) (λ f. differ t (parent t j) (parent t i) upper-low (sym f))) upper-low)
       (rw p (rise (b .under) refl upper-node (g .strict j (b .node) (b .under-root))))
 
   back-up : (k : ℕ) → Slides n (regraft n t i j x) i (height t (parent t i)) k (sibling t i)
-  back-up k = up {j = sibling t i} (rw (onto-height g down-grafts) (is-true _ x-under)) (rw (graft-node (g .valid) down-grafts x) from-parent)
+  back-up k = up {j = sibling t i} (rw (onto-height g grafts) (is-true _ x-under)) (rw (graft-node (g .valid) grafts x) from-parent)
 
   -- the slide down onto a branch under the sibling is undone by one up onto the old sibling's
   pub down-returns : Returns n t i (regraft n t i j x) (Counts (length (branches n t x (sibling t i))) 1)
-  down-returns = returns-up g down-grafts valid (back-up (backIndex n t (regraft n t i j x) i)) (is-true _ x-under) lower-low
+  down-returns = returns-up g grafts valid (back-up (backIndex n t (regraft n t i j x) i)) (is-true _ x-under) lower-low

@@ -1,26 +1,27 @@
 -- A slide of i's parent P to the height x. In order: what is given (`Sliding`), and the nodes around P and their heights; and the ways on which
 -- only the height changes, up or down, which the returning slide undoes likewise (`height-returns`). Assumes nothing.
-use mathlib.Core.Path.{_≡_, refl, sym, _∙_, subst}
+use mathlib.Core.Path.{_≡_, refl, sym, _∙_}
 use mathlib.Core.Logic.{_≢_, _⊎_, inl, inr}
 use mathlib.Core.Bool.{Bool, true, false, not}
-use Prim.Native.Nat.{ℕ, _+_, _≤_, _<_}
+use Prim.Native.Nat.{ℕ, _<_}
 use native.Mathlib.Decide.{ℕ-discrete}
 use lib.Dec.{T}
 use lib.Ieee.{Float, lt, le}
 use lib.Ieee.Scale.{finite}
 use Rattle.answer.specs.declared.Ratio.the-variants.{Even}
 use Rattle.real.specs.OrderLaws.{lt→le}
-use Rattle.tree.specs.Tree.{Tree, first, second, parent, height, sibling}
-use Rattle.tree.specs.Valid.{Inner, Valid, Strict}
+use Rattle.tree.specs.Tree.{Tree, parent, height, sibling}
+use Rattle.tree.specs.Valid.{Valid, Strict}
 use Rattle.accepted.specs.WayLaws.{valid-linked}
 use Rattle.edits.specs.Slots.{setHeight}
 use Rattle.edits.specs.SlotLaws.{not-own-parent}
 use Rattle.edits.specs.HeightLaws.{set-parent, set-root, set-back, height-other}
 use Rattle.reversal.specs.Reversed.{even}
 use Rattle.reversal.specs.FailedLaws.{failed, le-nlt}
-use Rattle.reversal.specs.FamilyLaws.{tip-apart, Sibling, sibling-is, sibling-only, sibling-below, differ}
-use Rattle.reversal.specs.DatedLaws.{height-at, set-valid}
+use Rattle.reversal.specs.FamilyLaws.{Sibling, sibling-is, sibling-below, differ}
+use Rattle.reversal.specs.DatedLaws.{height-at}
 use Rattle.reversal.specs.BranchLaws.{stops}
+use Rattle.reversal.specs.SlideValidLaws.{own-valid}
 use Rattle.reversal.specs.SlideWayLaws.{Slides, up, level, slid-only, ratio-only, backIndex, back-none, Returns}
 
 -- ---- around P
@@ -37,14 +38,6 @@ module _ {n : ℕ} {t : Tree} {i : ℕ} {x : Float} (g : Sliding n t i x) where
   -- P is a node
   pub parent-node : parent t i < n
   parent-node = g .valid .below i (g .node) (g .under) .parent-node
-
-  -- and not a tip
-  parent-inner : n < parent t i + parent t i
-  parent-inner = g .valid .below i (g .node) (g .under) .parent-inner
-
-  -- so a tip is not P
-  pub tip-other : (k : ℕ) → k + k ≤ n → k ≢ parent t i
-  tip-other = tip-apart (valid-linked (g .valid)) i (g .node) (g .under)
 
   -- the sibling is P's other child
   pub sibling-kin : Sibling n t i (sibling t i)
@@ -127,17 +120,8 @@ only t i x = setHeight t (parent t i) x
 
 module _ {n : ℕ} {t : Tree} {i : ℕ} {x : Float} (g : Sliding n t i x) (a : T (le (height t i) x)) (b : T (le (height t (sibling t i)) x))
     (h : parent t i ≢ t .root → T (le x (height t (parent t (parent t i))))) where
-  kid : (c : ℕ) → c < n → parent t c ≡ parent t i → T (le (height t c) x)
-  kid c C e = elim (ℕ-discrete c i) [
-    | yes f ↦ subst (λ (k : ℕ). T (le (height t k) x)) (sym f) a
-    | no f ↦ subst (λ (k : ℕ). T (le (height t k) x)) (sym (sibling-only (valid-linked (g .valid)) i (g .node) (g .under) c C e f)) b
-  ]
-
   only-valid : Valid n (only t i x)
-  only-valid =
-      let y : Inner n t (parent t i) = g .valid .inner (parent t i) (parent-node g) (parent-inner g) in
-      set-valid (g .valid) (parent t i) (parent-node g) (parent-inner g) x (g .number)
-      (kid (first t (parent t i)) (y .first-node) (y .first-parent)) (kid (second t (parent t i)) (y .second-node) (y .second-parent)) h
+  only-valid = own-valid (g .valid) (g .node) (g .under) x (g .number) a b h
 
   at-parent : height (only t i x) (parent (only t i x) i) ≡ x
   at-parent = rw (set-parent t (parent t i) x i) (height-at n t (g .valid .sized .heights) (parent t i) (parent-node g) x)
@@ -163,8 +147,6 @@ module _ {n : ℕ} {t : Tree} {i : ℕ} {x : Float} (g : Sliding n t i x) (a : T
   -- between its children and its parent P can go back to its old height
   pub height-returns : Returns n t i (setHeight t (parent t i) x) Even
   height-returns = record {
-    valid = only-valid;
-    tips = λ k q. elsewhere k (tip-other g k q);
     under = λ e. g .under (e ∙ set-root t (parent t i) x);
     to = parent (only t i x) i;
     way = only-way (backIndex n t (only t i x) i);

@@ -1,12 +1,12 @@
 -- SubtreeSlide is undone by SubtreeSlide: on each of its ways the returning choice gives the tree back (`slide-reverses`), with the index 0 where
 -- it picks no branch (`index-unused`). Assumes nothing.
 use mathlib.Core.Path.{_≡_, refl}
-use mathlib.Core.Logic.{_≢_, _⊎_, inl, inr}
-use mathlib.Core.Bool.{true, false, not}
+use mathlib.Core.Logic.{_≢_}
+use mathlib.Core.Bool.{true, false}
 use Prim.Native.Nat.{ℕ}
 use lib.Dec.{T}
 use lib.Ieee.{Float, lt, le}
-use Rattle.real.specs.OrderLaws.{lt→le, le-trans, lt-trans, nlt→le}
+use Rattle.real.specs.OrderLaws.{lt→le, le-trans}
 use Rattle.tree.specs.Tree.{Tree, parent, height, sibling}
 use Rattle.tree.specs.Valid.{Valid, Strict}
 use Rattle.rules.specs.Rules.{rises, lowers, slid, slideRatio}
@@ -16,9 +16,10 @@ use Rattle.reversal.specs.Back.{Reverses}
 use Rattle.reversal.specs.FailedLaws.{passed, lt-false}
 use Rattle.reversal.specs.BranchLaws.{Climb, stops, goes, branches-sound}
 use Rattle.reversal.specs.SlideWayLaws.{Slides, up, level, down, slides, slid-only, ratio-only, slid-onto, ratio-up, ratio-down, Returns, returns-back}
+use Rattle.reversal.specs.SlideValidLaws.{down-apart, up-over, up-within, slide-keeps}
 use Rattle.reversal.specs.SlideHeightLaws.{Sliding, parent-node, sibling-kin, number-node, number-parent, number-sibling, number-grand, node-low, sibling-low, height-returns}
-use Rattle.reversal.specs.SlideUpLaws.{up-grafts, up-returns}
-use Rattle.reversal.specs.SlideDownLaws.{down-grafts, down-returns}
+use Rattle.reversal.specs.SlideUpLaws.{up-away, up-returns}
+use Rattle.reversal.specs.SlideDownLaws.{down-returns}
 
 module _ {n : ℕ} {t : Tree} {i : ℕ} {x : Float} (g : Sliding n t i x) (index : ℕ) where
   Returned : Type 0
@@ -35,21 +36,16 @@ module _ {n : ℕ} {t : Tree} {i : ℕ} {x : Float} (g : Sliding n t i x) (index
   -- upwards
   rising : {j : ℕ} → rises t i x ≡ true → Climb t x (parent t i) j → Returned
   unfolding Returned
-  rising r (stops e) = by-height (up r (stops e)) refl
-      (lt→le (height t i) x (lt-trans _ _ _ (number-node g) (number-parent g) (g .number) (node-low g) p))
-      (lt→le (height t (sibling t i)) x (lt-trans _ _ _ (number-sibling g) (number-parent g) (g .number) (sibling-low g) p)) (over e)
-    where
-      p : T (lt (height t (parent t i)) x)
-      p = passed (rises t i x) r
-
-      over : (parent t i ≡ t .root) ⊎ T (not (lt (height t (parent t (parent t i))) x)) → parent t i ≢ t .root
-          → T (le x (height t (parent t (parent t i))))
-      over (inl e) d = absurd (d e)
-      over (inr h) d = nlt→le (height t (parent t (parent t i))) x (number-grand g d) (g .number) h
+  rising r (stops e) =
+      let p = passed (rises t i x) r in
+      let over = up-over (g .valid) (g .node) (g .under) (g .number) p (stops e) in
+      by-height (up r (stops e)) refl (over i (g .node) (lt→le (height t i) (height t (parent t i)) (node-low g)))
+      (over (sibling t i) (sibling-kin g .node) (lt→le (height t (sibling t i)) (height t (parent t i)) (sibling-low g)))
+      (up-within (g .valid) (g .node) (g .under) (g .number) p (stops e))
   rising {j} r (goes d q c) =
       let P = parent-node g in
       let s : Slides n t i x index j = up r (goes d q c) in
-      let a = up-grafts g d q c .not-parent in
+      let a = up-away g d q c in
       rw (slid-onto (g .valid) P s a, ratio-up (g .valid) P s a r (slid-onto (g .valid) P s a)) (up-returns g d q c)
 
   -- each way
@@ -66,7 +62,7 @@ module _ {n : ℕ} {t : Tree} {i : ℕ} {x : Float} (g : Sliding n t i x) (index
       let low : T (le (height t i) x) = lt-false x (height t i) (g .number) (number-node g) a in
       let q : T (lt x (height t (sibling t i))) = passed _ b in
       let y = branches-sound (g .valid) x (sibling-kin g .node) (index, k, e) in
-      let d = down-grafts g low q y .not-parent in
+      let d = down-apart (g .valid) (g .node) (g .under) y in
       rw (slid-onto (g .valid) P s d, ratio-down (g .valid) P s d r) (down-returns g low q y)
 
 module _ {n : ℕ} {t : Tree} (v : Valid n t) (st : Strict n t) (c : Choice SubtreeSlide) (l : Listed n SubtreeSlide t c)
@@ -83,4 +79,4 @@ module _ {n : ℕ} {t : Tree} (v : Valid n t) (st : Strict n t) (c : Choice Subt
 
 -- an admitted slide is undone by the returning one
 pub slide-reverses : Reverses SubtreeSlide
-slide-reverses n t v st c l f = returns-back v (l .node) (l .under) (admitted v st c l f)
+slide-reverses n t v st c l f = returns-back v (l .node) (l .under) (slide-keeps n t v c l f) (admitted v st c l f)

@@ -16,7 +16,7 @@ use Rattle.rules.specs.Rules.{regraft, lowers, branches, slid, slideRatio}
 use Rattle.reversal.specs.Reversed.{Turned, counts}
 use Rattle.reversal.specs.GraftLaws.{Grafts, graft-node, graft-height, graft-at, graft-sibling, graft-under, graft-back}
 use Rattle.reversal.specs.SlideWayLaws.{Slides, slid-onto, ratio-up, ratio-down, backIndex, back-none, Returns}
-use Rattle.reversal.specs.SlideHeightLaws.{Sliding, parent-node, tip-other, sibling-kin, number-parent, node-apart, sibling-apart}
+use Rattle.reversal.specs.SlideHeightLaws.{Sliding, parent-node, sibling-kin, number-parent, node-apart, sibling-apart}
 
 module _ {n : ℕ} {t : Tree} {i : ℕ} {x : Float} (g : Sliding n t i x) {j : ℕ} (a : Grafts n t i j) where
   node : parent (regraft n t i j x) i < n
@@ -38,8 +38,6 @@ module _ {n : ℕ} {t : Tree} {i : ℕ} {x : Float} (g : Sliding n t i x) {j : �
         → (lowers (regraft n t i j x) i (height t (parent t i)) ≡ false → backIndex n t (regraft n t i j x) i ≡ 0)
         → Returns n t i (regraft n t i j x) r
     returns q z = record {
-      valid = v;
-      tips = λ k h. graft-height (g .valid) a x k (tip-other g k h);
       under = graft-under (g .valid) a x i (g .under) (λ e. sibling-kin g .apart (sym e)) (node-apart g);
       to = sibling t i;
       way = s;

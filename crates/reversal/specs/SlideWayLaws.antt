@@ -4,7 +4,7 @@
 use mathlib.Core.Path.{_≡_, refl, _∙_}
 use mathlib.Core.Logic.{_≢_}
 use mathlib.Core.Bool.{Bool, true, false, _&&_, _||_}
-use Prim.Native.Nat.{ℕ, _+_, _≤_, _<_}
+use Prim.Native.Nat.{ℕ, _<_}
 use native.Mathlib.Omega.{arith}
 use borrow.Author.Tests.{eq-eqb, ne-eqb}
 use lib.Dec.{T, eqb}
@@ -19,7 +19,7 @@ use Rattle.edits.specs.Slots.{setHeight}
 use Rattle.rules.specs.Rules.{regraft, rises, lowers, branches, slideDeclines, SlideListed, slideTo, slid, slideRatio}
 use Rattle.rules.specs.Moves.{SubtreeSlide}
 use Rattle.reversal.specs.Reversed.{Turned}
-use Rattle.reversal.specs.Back.{Back}
+use Rattle.reversal.specs.Back.{Kept, Back}
 use Rattle.reversal.specs.FailedLaws.{or-first}
 use Rattle.reversal.specs.BranchLaws.{Climb, climb-is, climb-only, branches-none}
 
@@ -109,11 +109,8 @@ pub back-none : {n : ℕ} {u : Tree} → Valid n u → (t : Tree) (i : ℕ) → 
 unfolding place
 back-none v t i S X h = rw (branches-none v (height t (parent t i)) S X h)
 
--- u is valid with t's tips, and the slide from u to the old height goes one of the ways, gives t back and turns r over; its index is 0 where it
--- picks no branch
+-- the slide from u to the old height goes one of the ways, gives t back and turns r over; its index is 0 where it picks no branch
 pub record Returns (n : ℕ) (t : Tree) (i : ℕ) (u : Tree) (r : Ratio) : Type 0 where
-  pub valid : Valid n u
-  pub tips : (k : ℕ) → k + k ≤ n → height u k ≡ height t k
   pub under : i ≢ u .root
   pub to : ℕ
   pub way : Slides n u i (height t (parent t i)) (backIndex n t u i) to
@@ -121,12 +118,11 @@ pub record Returns (n : ℕ) (t : Tree) (i : ℕ) (u : Tree) (r : Ratio) : Type 
   pub ratio : Turned r (slideRatio n u i (height t (parent t i)) (backIndex n t u i))
   pub unused : lowers u i (height t (parent t i)) ≡ false → backIndex n t u i ≡ 0
 
--- that is what demand 3 asks, where u and r are what the slide makes of t
-pub returns-back : {n : ℕ} {t : Tree} → Valid n t → {i : ℕ} {x : Float} {index : ℕ} → i < n → i ≢ t .root
+-- that is what demand 3 asks, where u and r are what the slide makes of t, and u is kept
+pub returns-back : {n : ℕ} {t : Tree} → Valid n t → {i : ℕ} {x : Float} {index : ℕ} → i < n → i ≢ t .root → Kept n t (slid n t i x index)
     → Returns n t i (slid n t i x index) (slideRatio n t i x index) → Back n SubtreeSlide t (record { node = i; height = x; index = index })
-returns-back {n} {t} v {i} {x} {index} I d b = record {
-  valid = b .valid;
-  tips = b .tips;
+returns-back {n} {t} v {i} {x} {index} I d k b = record {
+  kept = k;
   listed = record {
     node = I;
     under = b .under;

@@ -1,5 +1,6 @@
--- WideExchange is taken back by itself (`wide-reverses`). In order: what it means that the move is not declined (`Free`), from the tests and
--- to them; the tree made, in which the two nodes are free again, since each was strictly below its old parent. Assumes nothing.
+-- WideExchange keeps a tree valid (`wide-keeps`) and, where every child is strictly younger than its parent, is taken back by itself
+-- (`wide-reverses`). In order: what it means that the move is not declined (`Free`), from the tests and to them; the tree made, in which the two
+-- nodes are free again, since each was strictly below its old parent. Assumes nothing.
 use mathlib.Core.Path.{_≡_, sym, _∙_}
 use mathlib.Core.Logic.{_≢_}
 use mathlib.Core.Bool.{false, _||_}
@@ -17,7 +18,8 @@ use Rattle.edits.specs.TurnLaws.{height-swap, swap-back}
 use Rattle.rules.specs.Rules.{WideListed, wideDeclines}
 use Rattle.rules.specs.Moves.{WideExchange}
 use Rattle.reversal.specs.Reversed.{even}
-use Rattle.reversal.specs.Back.{Reverses}
+use Rattle.reversal.specs.Back.{Keeps, Reverses}
+use Rattle.reversal.specs.FamilyLaws.{not-over}
 use Rattle.reversal.specs.FailedLaws.{or-first, or-second, le-false, lt-nle}
 use Rattle.reversal.specs.ExchangeLaws.{Exchangeable, root-kept, parent-i, parent-j, swap-valid}
 
@@ -87,15 +89,15 @@ numbers {n} {t} v i j l = record {
 -- ---- the tree made
 
 module _ {n : ℕ} {t : Tree} (v : Valid n t) (i j : ℕ) (l : WideListed n t i j) where
-  -- the two may change places
+  -- the two may change places, neither being as high as the other's parent
   exchangeable : Free t i j → Exchangeable n t i j
   exchangeable f = record {
     node-i = l .node-i;
     node-j = l .node-j;
     under-i = l .under-i;
     under-j = l .under-j;
-    free-i = λ e. f .free-i (sym e);
-    free-j = λ e. f .free-j (sym e);
+    free-i = not-over v j (parent t i) (l .node-j) (v .below i (l .node-i) (l .under-i) .parent-node) (f .low-j);
+    free-j = not-over v i (parent t j) (l .node-i) (v .below j (l .node-j) (l .under-j) .parent-node) (f .low-i);
     low-i = lt→le (height t i) (height t (parent t j)) (f .low-i);
     low-j = lt→le (height t j) (height t (parent t i)) (f .low-j);
   }
@@ -123,18 +125,24 @@ module _ {n : ℕ} {t : Tree} (v : Valid n t) (i j : ℕ) (l : WideListed n t i 
         low-i = rw (q, height-swap n t i j i, height-swap n t i j (parent t i)) (st i (l .node-i) (l .under-i));
       }
 
+-- the tree made is valid, with the tips' ages
+pub wide-keeps : Keeps WideExchange
+wide-keeps n t v c l free = record {
+  valid = swap-valid v (c .i) (c .j) (exchangeable v (c .i) (c .j) l (freed t (c .i) (c .j) (numbers v (c .i) (c .j) l) free));
+  tips = λ k h. height-swap n t (c .i) (c .j) k;
+}
+
 -- WideExchange of the same two takes it back
 pub wide-reverses : Reverses WideExchange
 wide-reverses n t v st c l free =
     let i = c .i in
     let j = c .j in
     let f = freed t i j (numbers v i j l) free in
-    let w = swap-valid v st i j (exchangeable v i j l f) in
+    let w = wide-keeps n t v c l free in
     record {
-      valid = w;
-      tips = λ k h. height-swap n t i j k;
+      kept = w;
       listed = listed v i j l;
-      free = undeclined (swap n t i j) i j (numbers w i j (listed v i j l)) (free-again v i j l st f);
+      free = undeclined (swap n t i j) i j (numbers (w .valid) i j (listed v i j l)) (free-again v i j l st f);
       tree = swap-back (valid-shaped v) i j (l .node-i) (l .node-j);
       ratio = even;
     }

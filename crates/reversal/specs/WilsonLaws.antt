@@ -1,5 +1,6 @@
--- WilsonBalding is taken back by the old sibling and the old height (`wilson-reverses`). In order: what is known where it does not decline
--- (`Free`); the tree made is valid, and the two ranges have changed places; and the choice that takes it back. Assumes nothing.
+-- WilsonBalding keeps a tree valid (`wilson-keeps`) and, where every child is strictly younger than its parent, is taken back by the old sibling
+-- and the old height (`wilson-reverses`). In order: what is known where it does not decline (`Free`); the tree made is valid, and the two ranges have
+-- changed places; and the choice that takes it back. Assumes nothing.
 use mathlib.Core.Path.{_≡_, sym, ap, _∙_}
 use mathlib.Core.Logic.{_≢_}
 use mathlib.Core.Bool.{false, _||_, or-true}
@@ -20,8 +21,8 @@ use Rattle.rules.specs.Rules.{WilsonListed, regraft, newRange, oldRange, wilson
 use Rattle.rules.specs.Moves.{WilsonBalding}
 use Rattle.reversal.specs.IntervalLaws.{within-low, within-high, within-is, within-finite}
 use Rattle.reversal.specs.Reversed.{lengths}
-use Rattle.reversal.specs.Back.{Reverses}
-use Rattle.reversal.specs.FamilyLaws.{tip-apart, Sibling, sibling-is, differ, sibling-below}
+use Rattle.reversal.specs.Back.{Keeps, Reverses}
+use Rattle.reversal.specs.FamilyLaws.{tip-apart, Sibling, sibling-is, not-over, differ, sibling-below}
 use Rattle.reversal.specs.FailedLaws.{or-first, or-second}
 use Rattle.reversal.specs.GraftLaws.{Grafts, graft-parent-node, graft-child, graft-three, graft-node, graft-old-sibling, graft-parent, graft-height, graft-sibling, graft-root-same, graft-back}
 use Rattle.reversal.specs.GraftValidLaws.{graft-valid}
@@ -80,7 +81,7 @@ module _ (t : Tree) (i j : ℕ) where
 
 -- ---- the tree made
 
-module _ {n : ℕ} {t : Tree} (v : Valid n t) (st : Strict n t) {i j : ℕ} {x : Float} (l : WilsonListed n t i j x) (f : Free t i j) where
+module _ {n : ℕ} {t : Tree} (v : Valid n t) {i j : ℕ} {x : Float} (l : WilsonListed n t i j x) (f : Free t i j) where
   abbrev after : Tree
   after = regraft n t i j x
 
@@ -103,9 +104,16 @@ module _ {n : ℕ} {t : Tree} (v : Valid n t) (st : Strict n t) {i j : ℕ} {x :
   P : parent t i < n
   P = graft-parent-node v grafts
 
+  Q : parent t j < n
+  Q = v .below j (l .node-j) (f .under-j) .parent-node
+
+  -- j is not the root, so its parent is above i
+  taller : T (lt (height t i) (height t (parent t j)))
+  taller = rw (ne-eqb j (t .root) (f .under-j)) at (l .host)
+
   -- a height in the interval is finite, and no lower than i and j
-  wilson-valid : Valid n after
-  wilson-valid = graft-valid v grafts x st X (low .0) (low .1) (λ d. within-high lower x upper (l .interval d)) (λ d. f .not-child)
+  valid : Valid n after
+  valid = graft-valid v grafts x X (low .0) (low .1) (λ d. within-high lower x upper (l .interval d)) (λ d. not-over v i (parent t j) (l .node-i) Q taller)
     where
       lower : Float
       lower = maxOf (height t i) (height t j)
@@ -121,7 +129,7 @@ module _ {n : ℕ} {t : Tree} (v : Valid n t) (st : Strict n t) {i j : ℕ} {x :
 
       X : T (finite x)
       X = within-finite lower x upper (max-finite (height t i) (height t j) I J)
-          (v .dated .number (parent t j) (v .below j (l .node-j) (f .under-j) .parent-node)) (l .interval (f .under-j))
+          (v .dated .number (parent t j) Q) (l .interval (f .under-j))
 
       low : T (le (height t i) x) × T (le (height t j) x)
       low = of-max-le (height t i) (height t j) x I J X (within-low lower x upper (l .interval (f .under-j)))
@@ -157,48 +165,57 @@ module _ {n : ℕ} {t : Tree} (v : Valid n t) (st : Strict n t) {i j : ℕ} {x :
   root-same : after .root ≡ t .root
   root-same = graft-root-same v grafts x (f .under-parent) (f .under-j)
 
-  below-grand : T (lt (height t i) (height t grand))
-  below-grand =
-      let G : T (finite (height t grand)) = v .dated .number grand (v .below (parent t i) P (f .under-parent) .parent-node) in
-      lt-trans (height t i) (height t (parent t i)) (height t grand) (v .dated .number i (l .node-i)) (v .dated .number (parent t i) P) G
-      (st i (l .node-i) (l .under-i)) (st (parent t i) P (f .under-parent))
+  -- ---- the way back, where every child is strictly younger than its parent
 
-  -- the old sibling and the old height are in the lists
-  wilson-listed : WilsonListed n after i (sibling t i) (height t (parent t i))
-  wilson-listed = record {
-    node-i = l .node-i;
-    node-j = kin .node;
-    under-i = λ e. l .under-i (e ∙ root-same);
-    apart = kin .apart;
-    host = rw (kept-grand, kept-node, is-true (lt (height t i) (height t grand)) below-grand, or-true (eqb (sibling t i) (after .root))) tt;
-    interval = λ _. rw (kept-node, kept-sibling, kept-grand)
-        (within-is (maxOf (height t i) (height t (sibling t i))) (height t (parent t i)) (height t grand)
-        (max-le (height t i) (height t (sibling t i)) (height t (parent t i)) (v .dated .ordered i (l .node-i) (l .under-i))
-        (lt→le (height t (sibling t i)) (height t (parent t i)) (sibling-below v st i (l .node-i) (l .under-i))))
-        (v .dated .ordered (parent t i) P (f .under-parent)));
-  }
+  module _ (st : Strict n t) where
+    below-grand : T (lt (height t i) (height t grand))
+    below-grand =
+        let G : T (finite (height t grand)) = v .dated .number grand (v .below (parent t i) P (f .under-parent) .parent-node) in
+        lt-trans (height t i) (height t (parent t i)) (height t grand) (v .dated .number i (l .node-i)) (v .dated .number (parent t i) P) G
+        (st i (l .node-i) (l .under-i)) (st (parent t i) P (f .under-parent))
 
-  -- nothing declines them
-  wilson-free : Free after i (sibling t i)
-  wilson-free = record {
-    under-j = λ e. kin .under (e ∙ root-same);
-    under-parent = λ e. f .under-parent (sym (graft-node v grafts x) ∙ e ∙ root-same);
-    not-sisters = λ e. not-own-parent v (parent t i) P (f .under-parent) (sym (graft-old-sibling v grafts x) ∙ e ∙ graft-node v grafts x);
-    not-parent = λ e. graft-three v grafts .ab (e ∙ graft-node v grafts x);
-    not-child = λ e. differ t i grand below-grand (sym (graft-old-sibling v grafts x) ∙ e);
-    new = rw new-range (f .old);
-    old = rw old-range (f .new);
-  }
+    -- the old sibling and the old height are in the lists
+    wilson-listed : WilsonListed n after i (sibling t i) (height t (parent t i))
+    wilson-listed = record {
+      node-i = l .node-i;
+      node-j = kin .node;
+      under-i = λ e. l .under-i (e ∙ root-same);
+      apart = kin .apart;
+      host = rw (kept-grand, kept-node, is-true (lt (height t i) (height t grand)) below-grand, or-true (eqb (sibling t i) (after .root))) tt;
+      interval = λ _. rw (kept-node, kept-sibling, kept-grand)
+          (within-is (maxOf (height t i) (height t (sibling t i))) (height t (parent t i)) (height t grand)
+          (max-le (height t i) (height t (sibling t i)) (height t (parent t i)) (v .dated .ordered i (l .node-i) (l .under-i))
+          (lt→le (height t (sibling t i)) (height t (parent t i)) (sibling-below v st i (l .node-i) (l .under-i))))
+          (v .dated .ordered (parent t i) P (f .under-parent)));
+    }
+
+    -- nothing declines them
+    wilson-free : Free after i (sibling t i)
+    wilson-free = record {
+      under-j = λ e. kin .under (e ∙ root-same);
+      under-parent = λ e. f .under-parent (sym (graft-node v grafts x) ∙ e ∙ root-same);
+      not-sisters = λ e. not-own-parent v (parent t i) P (f .under-parent) (sym (graft-old-sibling v grafts x) ∙ e ∙ graft-node v grafts x);
+      not-parent = λ e. graft-three v grafts .ab (e ∙ graft-node v grafts x);
+      not-child = λ e. differ t i grand below-grand (sym (graft-old-sibling v grafts x) ∙ e);
+      new = rw new-range (f .old);
+      old = rw old-range (f .new);
+    }
+
+-- the tree made is valid, with the tips' ages
+pub wilson-keeps : Keeps WilsonBalding
+wilson-keeps n t v c l e = record {
+  valid = valid v l (freed t (c .i) (c .j) e);
+  tips = λ k h. kept v l (freed t (c .i) (c .j) e) k (tip-apart (valid-linked v) (c .i) (l .node-i) (l .under-i) k h);
+}
 
 -- the old sibling and the old height take WilsonBalding back
 pub wilson-reverses : Reverses WilsonBalding
 wilson-reverses n t v st c l e = record {
-  valid = wilson-valid v st l f;
-  tips = λ k h. kept v st l f k (tip-apart (valid-linked v) (c .i) (l .node-i) (l .under-i) k h);
-  listed = wilson-listed v st l f;
-  free = undeclined (regraft n t (c .i) (c .j) (c .height)) (c .i) (sibling t (c .i)) (wilson-free v st l f);
-  tree = graft-back v (grafts v st l f) (c .height);
-  ratio = rw (new-range v st l f, old-range v st l f) lengths;
+  kept = wilson-keeps n t v c l e;
+  listed = wilson-listed v l f st;
+  free = undeclined (regraft n t (c .i) (c .j) (c .height)) (c .i) (sibling t (c .i)) (wilson-free v l f st);
+  tree = graft-back v (grafts v l f) (c .height);
+  ratio = rw (new-range v l f, old-range v l f) lengths;
 }
   where
     f : Free t (c .i) (c .j)

@@ -27,6 +27,7 @@ use Rattle.reversal.specs.FamilyLaws.{Sibling, sibling-is}
 use Rattle.reversal.specs.GraftLaws.{Grafts, graft-sibling}
 use Rattle.reversal.specs.BranchLaws.{Climb, Branch, climb-is}
 use Rattle.reversal.specs.SlideWayLaws as Ways
+use Rattle.reversal.specs.SlideValidLaws.{down-apart, up-grafts, up-valid, up-not-below}
 use Rattle.branches.specs.Walk.{counted, picked}
 use Rattle.branches.specs.WalkLaws.{counted-is, picked-is, picked-branch, counted-bare, picked-bare, climb-bare}
 use Rattle.calls.specs.declared.Turned.the-variants as Turns
@@ -35,8 +36,6 @@ use Rattle.calls.specs.Harmless.{Turning, overflows}
 use Rattle.moves.specs.Programs.{subtreeSlide, slideAt}
 use Rattle.grafts.specs.Given.{Regrafts}
 use Rattle.slide.specs.Slide.{Slidable, Goes, GoesUp, GoesDown, Lowers}
-use Rattle.slide.specs.UpLaws.{up-grafts, up-valid, up-not-below}
-use Rattle.slide.specs.DownLaws.{down-apart}
 use Rattle.slide.proofs.RunLaws.{runs-up, runs-above, runs-level, runs-none, runs-spent, runs-under, kept, lifted, lowered}
 
 -- a valid tree has nodes of 16 bits

@@ -1,5 +1,3 @@
--- Started has the forms of the first call, Slide those of the second. The rest are laws of the tree that the second makes.
+-- Started has the forms of the first call, Slide those of the second.
 pub mod Started
 pub mod Slide
-pub mod UpLaws
-pub mod DownLaws
