@@ -1,9 +1,9 @@
--- The checks of a call of TipAge. In order: what they pass (`ages-fine`); that they say the same of two allowances within the limits (`ages-same`),
--- and of one smaller than one that they pass (`ages-smaller`); and that they refuse with 5 at most (`ages-few`). Assumes nothing.
+-- The checks of a call of TipAge. In order: what they pass (`ages-fine`); that they say the same of two allowances within the limits (`ages-same`);
+-- and that they refuse with 5 at most (`ages-few`). Assumes nothing.
 use mathlib.Core.Path.{_≡_, refl}
-use mathlib.Core.Bool.{Bool, true, false, _&&_, cond}
+use mathlib.Core.Bool.{Bool, true, false, _&&_}
 use mathlib.Core.List.{List}
-use Prim.Native.Nat.{ℕ, _≤_, _<_}
+use Prim.Native.Nat.{ℕ, _<_}
 use native.Mathlib.Omega.{arith}
 use lib.Dec.{eqb}
 use lib.ListN.{length}
@@ -19,10 +19,9 @@ use Rattle.accepted.specs.AcceptedLaws.{accepted-valid}
 use Rattle.accepted.specs.ValidatedLaws.{valid-fine}
 use Rattle.accepted.specs.RefusalLaws.{AtMost, either, validated-few, few-more}
 use Rattle.calls.specs.Call.{andThen, limited}
-use Rattle.calls.specs.CallLaws.{allows, allowed-top, then-few, limited-few}
+use Rattle.calls.specs.CallLaws.{then-few, limited-few}
 use Rattle.process.specs.declared.FossilizedBirthDeath.{FossilizedBirthDeath}
 use Rattle.process.specs.Process.{processFinite}
-use Rattle.ages.specs.CheckedLaws.{passed}
 use Rattle.ages.specs.Ages.{atFault, tableSized, Judged, in-order, some-tip}
 use Rattle.dating.specs.TipAge.{agesChecked}
 
@@ -35,11 +34,6 @@ clash z = absurd (omega arith)
 judged-fine : (fault : ℕ → Bool) (tips : ℕ) (v : Verdict) → Judged fault tips v → ((k : ℕ) → k < tips → fault k ≡ false) → v ≡ Verdicts.Fine
 judged-fine fault tips v (in-order f) h = refl
 judged-fine fault tips v (some-tip k l e) h = let q = h k l in clash cc
-
-limits-fine : (b c : Bool) → cond (b && c) Verdicts.Fine (Verdicts.Refused (Parameter 0)) ≡ Verdicts.Fine → c ≡ true
-limits-fine true true e = refl
-limits-fine true false e = clash cc
-limits-fine false c e = clash cc
 
 -- ---- numbers
 
@@ -72,19 +66,6 @@ module _ (minima maxima : List Float) (p : FossilizedBirthDeath) (t : Tree) (tab
   pub ages-same : (a b : ℕ) → allowed a ≡ true → allowed b ≡ true → agesChecked minima maxima p t b table ≡ agesChecked minima maxima p t a table
   unfolding agesChecked
   ages-same a b h k = rw (h, k)
-
-  -- where they pass an allowance they say the same of a smaller one
-  pub ages-smaller : (a b : ℕ) → 1 ≤ a → a ≤ b → agesChecked minima maxima p t b table ≡ Verdicts.Fine
-      → agesChecked minima maxima p t a table ≡ agesChecked minima maxima p t b table
-  ages-smaller a b h k y =
-      let p = within y in
-      let top = allowed-top b p in
-      ages-same b a p (allows a h (omega arith))
-    where
-      within : agesChecked minima maxima p t b table ≡ Verdicts.Fine → allowed b ≡ true
-      within y =
-          limits-fine (processFinite p) (allowed b)
-          (passed minima maxima t (processFinite p && allowed b) table (unfold agesChecked in y) .within)
 
   -- ---- refusals
 
