@@ -22,11 +22,8 @@ use Rattle.random.specs.DrawLaws.{run-bind}
 use Rattle.tree.specs.declared.Verdict.the-variants as Verdicts
 use Rattle.calls.specs.Call.{Reply, makes, Ending, refused, given, ended, leftOf, drawsMade, limited, past, runCall}
 use Rattle.calls.specs.Change.{Change, declined, scaled, inPlace, onPart, Proposed, proposed, keeps, replying, valueCall}
-use Rattle.calls.specs.RunLaws.{run-steps, run-within, run-draws, run-larger, run-enough}
+use Rattle.calls.specs.RunLaws.{clash, run-steps, run-within, run-draws, run-larger, run-enough}
 use Rattle.calls.specs.CallLaws.{allows}
-
-clash : {X : Type 0} → _≡_ {A = ℕ} 0 1 → X
-clash e = absurd (omega arith)
 
 -- ---- what a call leaves
 

@@ -20,10 +20,7 @@ use Rattle.tree.specs.Tree.{Tree}
 use Rattle.tree.specs.Given.{treeOf}
 use Rattle.accepted.specs.RefusalLaws.{AtMost}
 use Rattle.calls.specs.Call.{Reply, makes, notFinite, outside, Ending, refused, given, ended, drawsMade, runCall, Outcome, declined, moved, calledOn, leaves}
-use Rattle.calls.specs.RunLaws.{run-given, run-steps, run-within, run-draws, run-larger, run-enough}
-
-clash : {X : Type 0} → _≡_ {A = ℕ} 0 1 → X
-clash z = absurd (omega arith)
+use Rattle.calls.specs.RunLaws.{clash, run-given, run-steps, run-within, run-draws, run-larger, run-enough}
 
 -- the call passed its checks, and its program's run ended in a reply
 pub record Replied (program : Draw (Reply Outcome)) (g : Random) (v : Verdict) (a : ℕ) (r : Reply Outcome) : Type 0 where

@@ -16,11 +16,11 @@ use Rattle.random.specs.Lawful.{more}
 use Rattle.random.specs.DrawLaws.{run-lawful}
 use Rattle.tree.specs.declared.Verdict.{Verdict}
 use Rattle.tree.specs.declared.Verdict.the-variants as Verdicts
-use Rattle.calls.specs.Call.{Reply, makes, notFinite, outside, Ending, refused, given, ended, leftOf, drawsMade, runCall}
+use Rattle.calls.specs.Call.{Reply, makes, notFinite, outside, refused, given, ended, leftOf, drawsMade, runCall}
 
--- no call is both turned back and given
-pub clash : {A X : Type 0} {why : Refusal} {a : A} {draws : ℕ} {h : Random} → _≡_ {A = Ending A} (refused why) (given a draws h) → X
-clash e = let z : _≡_ {A = ℕ} 0 1 = cc in absurd (omega arith)
+-- for cases that cannot be: where two different constructors would be equal, `cc` makes this of them
+pub clash : {X : Type 0} → _≡_ {A = ℕ} 0 1 → X
+clash z = absurd (omega arith)
 
 module _ {A : Type 0} (program : Draw (Reply A)) (g : Random) where
   -- ---- a value
@@ -35,13 +35,13 @@ module _ {A : Type 0} (program : Draw (Reply A)) (g : Random) where
   -- a call that gave a value passed its checks, and its program drew the value
   pub run-given : (v : Verdict) (allowance : ℕ) (a : A) (draws : ℕ) (h : Random) → runCall v program g allowance ≡ given a draws h → Ran v allowance a draws h
   unfolding ended
-  run-given (Verdicts.Refused why) allowance a draws h e = clash e
+  run-given (Verdicts.Refused why) allowance a draws h e = clash cc
   run-given Verdicts.Fine allowance a draws h e = drawn (run program (supplyOf g allowance)) refl e
     where
       drawn : (d : Drawn (Reply A)) → run program (supplyOf g allowance) ≡ d → ended allowance d ≡ given a draws h → Ran Verdicts.Fine allowance a draws h
-      drawn spent e q = clash q
-      drawn (got (notFinite k) s) e q = clash q
-      drawn (got (outside k) s) e q = clash q
+      drawn spent e q = clash cc
+      drawn (got (notFinite k) s) e q = clash cc
+      drawn (got (outside k) s) e q = clash cc
       drawn (got (makes b) s) e q =
           let ea : b ≡ a = cc in
           let eh : s .random ≡ h = cc in
@@ -118,4 +118,4 @@ module _ {A : Type 0} (program : Draw (Reply A)) (g : Random) where
       drawn spent e = inl cc
       drawn (got (notFinite k) s) e = inr (k, inl cc)
       drawn (got (outside k) s) e = inr (k, inr cc)
-      drawn (got (makes a) s) e = clash (sym e)
+      drawn (got (makes a) s) e = clash cc

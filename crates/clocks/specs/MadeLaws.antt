@@ -4,7 +4,6 @@ use mathlib.Core.Path.{_≡_, refl}
 use mathlib.Core.Logic.{_⊎_, inl, inr}
 use mathlib.Core.List.{List}
 use Prim.Native.Nat.{ℕ, _<_}
-use native.Mathlib.Omega.{arith}
 use lib.ListN.{length, getD, set}
 use lib.Ieee.{Float, nan, binary64, mul}
 use Rattle.answer.specs.declared.Ratio.{Ratio}
@@ -17,14 +16,12 @@ use Rattle.real.specs.declared.Optional.{Optional}
 use Rattle.real.specs.declared.Optional.the-variants.{Missing, Given}
 use Rattle.real.specs.Real.{positive}
 use Rattle.calls.specs.Change.{Change, declined, scaled}
+use Rattle.calls.specs.RunLaws.{clash}
 use Rattle.calls.specs.ChangeLaws.{value-made, value-unmade}
 use Rattle.calls.specs.StepLaws.{number-yields}
 use Rattle.scales.specs.Scalings.{Declines, Placed, PartScales}
 use Rattle.scales.specs.ScalingLaws.{placed-yields, placed-made, placed-unmade}
 use Rattle.clocks.specs.Clocks.{clockLimits, clockSigma, clockSigmaCall, branchRateOf, branchRate, branchRateCall}
-
-clash : {X : Type 0} → _≡_ {A = ℕ} 0 1 → X
-clash z = absurd (omega arith)
 
 -- ---- ClockSigmaScale
 

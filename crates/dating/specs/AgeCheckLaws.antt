@@ -9,7 +9,7 @@ use lib.Dec.{eqb}
 use lib.ListN.{length}
 use lib.Ieee.{Float}
 use borrow.Author.Tests.{eq-eqb}
-use Rattle.answer.specs.declared.Refusal.the-variants.{Size, Parameter}
+use Rattle.answer.specs.declared.Refusal.the-variants.{Size}
 use Rattle.random.specs.Draw.{allowed}
 use Rattle.tree.specs.declared.Verdict.{Verdict}
 use Rattle.tree.specs.declared.Verdict.the-variants as Verdicts
@@ -19,14 +19,12 @@ use Rattle.accepted.specs.AcceptedLaws.{accepted-valid}
 use Rattle.accepted.specs.ValidatedLaws.{valid-fine}
 use Rattle.accepted.specs.RefusalLaws.{AtMost, either, validated-few, few-more}
 use Rattle.calls.specs.Call.{andThen, limited}
+use Rattle.calls.specs.RunLaws.{clash}
 use Rattle.calls.specs.CallLaws.{then-few, limited-few}
 use Rattle.process.specs.declared.FossilizedBirthDeath.{FossilizedBirthDeath}
 use Rattle.process.specs.Process.{processFinite}
 use Rattle.ages.specs.Ages.{atFault, tableSized, Judged, in-order, some-tip}
 use Rattle.dating.specs.TipAge.{agesChecked}
-
-clash : {X : Type 0} → _≡_ {A = ℕ} 0 1 → X
-clash z = absurd (omega arith)
 
 -- ---- what passes
 
