@@ -37,6 +37,15 @@ ended allowance (got (notFinite k) s) = refused (NotFinite k)
 ended allowance (got (outside k) s) = refused (Outside k)
 ended allowance (got (makes a) s) = given a (allowance - s .left) (s .random)
 
+-- the draws that a run leaves: none where more are needed
+abbrev pub leftOf : {A : Type 0} → Drawn A → ℕ
+leftOf spent = 0
+leftOf (got a s) = s .left
+
+-- the draws that a program makes within an allowance, whatever it ends in
+abbrev pub drawsMade : {A : Type 0} → Draw A → Random → ℕ → ℕ
+drawsMade program g allowance = allowance - leftOf (run program (supplyOf g allowance))
+
 -- "Order: 9, then 1 to 5": what the first of two checks refuses is refused
 abbrev pub andThen : Verdict → Verdict → Verdict
 andThen (Verdicts.Refused why) next = Verdicts.Refused why

@@ -1,13 +1,12 @@
 -- What holds of every call on a tree, whatever its program: RunLaws with the checks of the tree and the limits. In order: what a call that was not
--- turned back has passed and drawn (`call-given`); steps (`call-steps`, `call-within`); other allowances (`call-larger`, `call-enough`); and what
+-- turned back has passed and drawn (`call-given`); draws (`call-steps`, `call-within`, `call-draws`); other allowances (`call-larger`, `call-enough`); and what
 -- turns a call back past its checks (`call-refused`) and by them (`checked-few`). Assumes nothing.
 use mathlib.Core.Path.{_≡_}
 use mathlib.Core.Logic.{_⊎_}
-use mathlib.Core.Bool.{Bool, true, _&&_, and-eq-true-iff}
+use mathlib.Core.Bool.{Bool, true, _&&_}
 use Prim.Native.Nat.{ℕ, _-_, _≤_}
 use native.Mathlib.Omega.{arith}
-use lib.Dec.{leb}
-use borrow.Author.Tests.{le-leb, leb-true}
+use borrow.Author.Tests.{le-leb}
 use Rattle.answer.specs.declared.Refusal.{Refusal}
 use Rattle.answer.specs.declared.Refusal.the-variants.{Parameter, Allowance, NotFinite, Outside}
 use Rattle.random.specs.declared.Random.{Random}
@@ -18,17 +17,13 @@ use Rattle.tree.specs.declared.Verdict.the-variants as Verdicts
 use Rattle.tree.specs.Tree.{Tree}
 use Rattle.tree.specs.New.{validated}
 use Rattle.accepted.specs.RefusalLaws.{AtMost, either, validated-few, few-more}
-use Rattle.calls.specs.Call.{Reply, makes, refused, given, andThen, limited, checked, callOf}
+use Rattle.calls.specs.Call.{Reply, makes, refused, given, drawsMade, andThen, limited, checked, callOf}
 use Rattle.calls.specs.EntryLaws.{Passed, passed}
-use Rattle.calls.specs.RunLaws.{run-given, run-steps, run-within, run-larger, run-enough, run-refused}
+use Rattle.calls.specs.RunLaws.{run-given, run-steps, run-within, run-draws, run-larger, run-enough, run-refused}
 
 -- from 1 to 65,535
 pub allows : (a : ℕ) → 1 ≤ a → a ≤ 65535 → allowed a ≡ true
 allows a h k = rw (le-leb 1 a h, le-leb a 65535 k)
-
--- at most 65,535
-pub allowed-top : (a : ℕ) → allowed a ≡ true → a ≤ 65535
-allowed-top a p = leb-true a 65535 (and-eq-true-iff (leb 1 a) (leb a 65535) .0 p .1)
 
 -- the checks say the same of two such allowances
 pub same-checks : (limits : Bool) (t : Tree) (a b : ℕ) → allowed a ≡ true → allowed b ≡ true → checked limits t b ≡ checked limits t a
@@ -61,6 +56,10 @@ module _ {A : Type 0} (limits : Bool) (program : Draw (Reply A)) (t : Tree) (g :
     pub call-within : draws ≤ allowance
     call-within = run-within program g (checked limits t allowance) allowance a draws h (unfold callOf in e)
 
+    -- as many as its program makes
+    pub call-draws : draws ≡ drawsMade program g allowance
+    call-draws = run-draws program g (checked limits t allowance) allowance a draws h (unfold callOf in e)
+
   -- ---- other allowances
 
   -- what the call answered with an allowance it answers with a larger one, unless it was a 6
@@ -71,15 +70,12 @@ module _ {A : Type 0} (limits : Bool) (program : Draw (Reply A)) (t : Tree) (g :
       let y = same-checks limits t a b (allows a h (omega arith)) (allows b (omega arith) k) in
       rw y (run-larger program g (checked limits t a) a b o n)
 
-  -- an allowance of as many draws as the call makes is enough: a 6 is given only where more draws would be made
-  pub call-enough : (a b : ℕ) (x : A) (draws : ℕ) (h : Random) → 1 ≤ a → draws ≤ a → a ≤ b
-      → callOf limits program t g b ≡ given x draws h → callOf limits program t g a ≡ given x draws h
+  -- an allowance of as many draws as the program makes is enough, whatever it ends in: a 6 is given only where more draws would be made
+  pub call-enough : (a b : ℕ) → 1 ≤ a → a ≤ b → b ≤ 65535 → drawsMade program g b ≤ a → callOf limits program t g a ≡ callOf limits program t g b
   unfolding callOf
-  call-enough a b x draws h o m k e =
-      let p = call-given b x draws h e .passes .allows in
-      let top = allowed-top b p in
-      let y = same-checks limits t b a p (allows a o (omega arith)) in
-      rw y (run-enough program g (checked limits t b) a b x draws h m k e)
+  call-enough a b h o k m =
+      let y = same-checks limits t a b (allows a h (omega arith)) (allows b (omega arith) k) in
+      rw y (run-enough program g (checked limits t a) a b o m)
 
   -- ---- what turns a call back
 

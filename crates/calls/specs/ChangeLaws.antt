@@ -1,11 +1,11 @@
 -- What holds of every call on parameters, whatever its program. In order: what it leaves, by how its checks and its program end (`value-limits`,
--- `value-spent`, `value-declined`, `value-scaled`, `value-undrawn`, for the code of the calls) and from the call on a part (`value-part`); steps (`value-steps`,
--- `value-within`); what is not changed (`value-refused`, `value-kept`); how the program's run ended
+-- `value-spent`, `value-declined`, `value-scaled`, `value-undrawn`, for the code of the calls) and from the call on a part (`value-part`); draws (`value-steps`,
+-- `value-within`, `value-draws`); what is not changed (`value-refused`, `value-kept`); how the program's run ended
 -- (`value-made`, `value-unmade`); other allowances (`value-larger`, `value-enough`); and that nothing but 5
 -- and 6 turns it back (`value-ends`, `value-refusals`). Assumes nothing.
 use mathlib.Core.Path.{_≡_, refl, ap, _∙_}
 use mathlib.Core.Logic.{_⊎_, inl, inr}
-use mathlib.Core.Bool.{Bool, true, false, _&&_, cond, and-eq-true-iff}
+use mathlib.Core.Bool.{Bool, true, false, _&&_, cond}
 use Prim.Native.Nat.{ℕ, _-_, _≤_}
 use native.Mathlib.Omega.{arith}
 use Rattle.answer.specs.declared.Refusal.{Refusal}
@@ -20,13 +20,10 @@ use Rattle.random.specs.Generator.{after}
 use Rattle.random.specs.Draw.{Draw, return, Drawn, spent, got, onward, run, supplyOf, allowed}
 use Rattle.random.specs.DrawLaws.{run-bind}
 use Rattle.tree.specs.declared.Verdict.the-variants as Verdicts
-use Rattle.calls.specs.Call.{Reply, makes, Ending, refused, given, ended, limited, past, runCall}
+use Rattle.calls.specs.Call.{Reply, makes, Ending, refused, given, ended, leftOf, drawsMade, limited, past, runCall}
 use Rattle.calls.specs.Change.{Change, declined, scaled, inPlace, onPart, Proposed, proposed, keeps, replying, valueCall}
-use Rattle.calls.specs.RunLaws.{run-steps, run-within, run-larger, run-enough}
-use Rattle.calls.specs.CallLaws.{allows, allowed-top}
-
-clash : {X : Type 0} → _≡_ {A = ℕ} 0 1 → X
-clash e = absurd (omega arith)
+use Rattle.calls.specs.RunLaws.{clash, run-steps, run-within, run-draws, run-larger, run-enough}
+use Rattle.calls.specs.CallLaws.{allows}
 
 -- ---- what a call leaves
 
@@ -37,6 +34,15 @@ replied d = onward d (λ a u. got (makes a) u)
 replying-run : {A : Type 0} (program : Draw A) (s : Supply) → run (replying program) s ≡ replied (run program s)
 unfolding replying replied run
 replying-run program s = run-bind program (λ a. return (makes a)) s
+
+-- a reply takes no draw
+replying-made : {A : Type 0} (program : Draw A) (g : Random) (a : ℕ) → drawsMade (replying program) g a ≡ drawsMade program g a
+unfolding replied onward
+replying-made {A} program g a = rw (replying-run program (supplyOf g a)) (go (run program (supplyOf g a)))
+  where
+    go : (d : Drawn A) → a - leftOf (replied d) ≡ a - leftOf d
+    go spent = refl
+    go (got x u) = refl
 
 module _ {P : Type 0} (limits : Bool) (program : Draw (Change P)) (v : P) (g : Random) (allowance : ℕ) where
   pub value-limits : limits && allowed allowance ≡ false → proposed (Proposals.Refused (Parameter 0)) g v ≡ valueCall limits program v g allowance
@@ -124,6 +130,18 @@ module _ {P : Type 0} (limits : Bool) (program : Draw (Change P)) (v : P) (g : R
       go (given declined d h) e = run-within (replying program) g (limited limits a) a declined d h e
       go (given (scaled w r) d h) e = run-within (replying program) g (limited limits a) a (scaled w r) d h e
 
+  -- a call that is not refused says as many as its program makes
+  pub value-draws : (a : ℕ) → ((why : Refusal) → valueCall limits program v g a .answer ≡ Proposals.Refused why → ⊥)
+      → drawsIn (valueCall limits program v g a .answer) ≡ drawsMade program g a
+  unfolding valueCall keeps
+  value-draws a n = go (ending a) refl n ∙ replying-made program g a
+    where
+      go : (x : Ending (Change P)) → ending a ≡ x → ((why : Refusal) → keeps v g x .answer ≡ Proposals.Refused why → ⊥)
+          → drawsIn (keeps v g x .answer) ≡ drawsMade (replying program) g a
+      go (refused why) e n = absurd (n why refl)
+      go (given declined d h) e n = run-draws (replying program) g (limited limits a) a declined d h e
+      go (given (scaled w r) d h) e n = run-draws (replying program) g (limited limits a) a (scaled w r) d h e
+
   -- ---- what is not changed
 
   -- a refused call hands back the generator and the parameters as they came
@@ -205,25 +223,12 @@ module _ {P : Type 0} (limits : Bool) (program : Draw (Change P)) (v : P) (g : R
       let y = same-limits a b (allows a h (omega arith)) (allows b (omega arith) k) in
       rw y (ap (keeps v g) (run-larger (replying program) g (limited limits a) a b o (λ e. n (ap (λ (x : Ending (Change P)). keeps v g x .answer) e))))
 
-  -- an allowance of as many draws as a call makes is enough: a 6 is answered only where more draws would be made
-  pub value-enough : (a b : ℕ) → 1 ≤ a → a ≤ b → ((why : Refusal) → valueCall limits program v g b .answer ≡ Proposals.Refused why → ⊥)
-      → drawsIn (valueCall limits program v g b .answer) ≤ a → valueCall limits program v g a ≡ valueCall limits program v g b
-  unfolding valueCall keeps
-  value-enough a b h k = go (ending b) refl
-    where
-      again : (c : Change P) (d : ℕ) (i : Random) → d ≤ a → ending b ≡ given c d i → keeps v g (ending a) ≡ keeps v g (given c d i)
-      again c d i q e =
-          let l = and-eq-true-iff limits (allowed b) .0 (changed b c d i e .fine) .1 in
-          let m = allowed-top b l in
-          let y = same-limits b a l (allows a h (omega arith)) in
-          let z : ending a ≡ given c d i = rw y (run-enough (replying program) g (limited limits b) a b c d i q k e) in
-          ap (keeps v g) z
-
-      go : (x : Ending (Change P)) → ending b ≡ x → ((why : Refusal) → keeps v g x .answer ≡ Proposals.Refused why → ⊥) → drawsIn (keeps v g x .answer) ≤ a
-          → keeps v g (ending a) ≡ keeps v g x
-      go (refused why) e n q = absurd (n why refl)
-      go (given declined d i) e n q = again declined d i q e
-      go (given (scaled w r) d i) e n q = again (scaled w r) d i q e
+  -- an allowance of as many draws as the program makes is enough: a 6 is answered only where more draws would be made
+  pub value-enough : (a b : ℕ) → 1 ≤ a → a ≤ b → b ≤ 65535 → drawsMade program g b ≤ a → valueCall limits program v g a ≡ valueCall limits program v g b
+  unfolding valueCall
+  value-enough a b h o k m =
+      let y = same-limits a b (allows a h (omega arith)) (allows b (omega arith) k) in
+      rw y (ap (keeps v g) (run-enough (replying program) g (limited limits a) a b o (rw (replying-made program g b) m)))
 
   -- ---- what turns a call back
 

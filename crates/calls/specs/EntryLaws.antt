@@ -6,7 +6,6 @@ use mathlib.Core.Path.{_≡_, refl, sym, ap, _∙_}
 use mathlib.Core.Bool.{Bool, true, false, _&&_, cond, and-eq-true-iff}
 use mathlib.Core.List.{List}
 use Prim.Native.Nat.{ℕ}
-use native.Mathlib.Omega.{arith}
 use lib.Ieee.{Float}
 use Rattle.answer.specs.declared.Refusal.{Refusal}
 use Rattle.answer.specs.declared.Refusal.the-variants.{Parameter}
@@ -26,6 +25,7 @@ use Rattle.calls.specs.Call.{Reply, makes, notFinite, outside, Outcome, 
 use Rattle.calls.specs.Given.{after, turnOf, turnedBack, answeredOf}
 use Rattle.calls.specs.Harmless.{Unvalidated, Turning}
 use Rattle.calls.specs.HarmlessLaws.{answering, refused-harmless, turn-harmless}
+use Rattle.calls.specs.RunLaws.{clash}
 
 -- ---- a check that passed
 
@@ -42,8 +42,8 @@ passed limits t allowance = go (validated t) refl (limits && allowed allowance) 
   where
     go : (v : Verdict) → validated t ≡ v → (b : Bool) → limits && allowed allowance ≡ b → andThen v (cond b Verdicts.Fine (Verdicts.Refused (Parameter 0))) ≡ Verdicts.Fine → Passed limits t allowance
     go Verdicts.Fine e true f h = let p = and-eq-true-iff limits (allowed allowance) .0 f in record { tree = e; within = p .0; allows = p .1 }
-    go Verdicts.Fine e false f h = let z : _≡_ {A = ℕ} 0 1 = cc in absurd (omega arith)
-    go (Verdicts.Refused why) e b f h = let z : _≡_ {A = ℕ} 0 1 = cc in absurd (omega arith)
+    go Verdicts.Fine e false f h = clash cc
+    go (Verdicts.Refused why) e b f h = clash cc
 
 -- ---- a tree that was validated
 

@@ -27,6 +27,7 @@ use Rattle.tree.specs.Given.{treeOf}
 use Rattle.calls.specs.declared.Turned.the-variants as Turns
 use Rattle.calls.specs.Call.{Reply, makes, notFinite, outside, Outcome, declined, moved, limited, Called, called, calledOn}
 use Rattle.calls.specs.Given.{After, afterOn, turnOf, answeredOf}
+use Rattle.calls.specs.RunLaws.{clash}
 use Rattle.calls.specs.Harmless.{SameLengths, Harmless, Mild, moves, declines, spends, overflows, strays}
 
 -- ---- drawing steps a supply
@@ -108,9 +109,6 @@ abbrev pub answering : Random → ℕ → After → Called
 answering g allowance a = let r = answeredOf (a .turned) (a .supply) g allowance in called (r .answer) (r .random) (a .pairs) (a .parents) (a .heights)
 
 module _ (limits : Bool) (t : Tree) (g : Random) (allowance : ℕ) where
-  clash : {X : Type 0} → _≡_ {A = ℕ} 0 1 → X
-  clash z = absurd (omega arith)
-
   -- refused, with all as it came
   pub back-harmless : (why : Refusal) → (limits && allowed allowance ≡ false → why ≡ Parameter 0) → Harmless limits t g allowance (calledOn (Answers.Refused why) g t)
   unfolding after

@@ -3,7 +3,6 @@
 use mathlib.Core.Path.{_≡_, refl, sym, ap, _∙_}
 use mathlib.Core.Bool.{Bool, true, false, cond}
 use Prim.Native.Nat.{ℕ}
-use native.Mathlib.Omega.{arith}
 use lib.Ieee.{Float}
 use Rattle.random.specs.declared.Supply.{Supply}
 use Rattle.random.specs.declared.DrawnReal.{DrawnReal}
@@ -16,6 +15,7 @@ use Rattle.calls.specs.declared.Height.the-variants as Heights
 use Rattle.calls.specs.Call.{Reply, makes, outside, Outcome}
 use Rattle.calls.specs.Draws.{interpolated, drawnHeight}
 use Rattle.calls.specs.Given.{heightOf}
+use Rattle.calls.specs.RunLaws.{clash}
 
 -- r is the uniform, and h the height that it takes
 module _ (k : ℕ) (lower upper : Float) (make : Float → Outcome) (s : Supply) (r : DrawnReal) (e : r ≡ drawnReal s (run uniform s)) where
@@ -41,12 +41,12 @@ module _ (k : ℕ) (lower upper : Float) (make : Float → Outcome) (s : Supply)
       where
         go : (b : Bool) → cond b (Heights.At at) Heights.Outside ≡ Heights.At x → cond b (makes (make at)) (outside k) ≡ makes (make x)
         go true q = let y : at ≡ x = cc in ap (λ (z : Float). makes (make z)) y
-        go false q = let z : _≡_ {A = ℕ} 0 1 = cc in absurd (omega arith)
+        go false q = clash cc
 
     -- the height is an 8
     pub height-outside : h ≡ Heights.Outside → run (drawnHeight k lower upper make) s ≡ got (outside k) (r .supply)
     height-outside p = ran ∙ ap (λ (a : Reply Outcome). got a (r .supply)) (go inside (sym eh ∙ p))
       where
         go : (b : Bool) → cond b (Heights.At at) Heights.Outside ≡ Heights.Outside → cond b (makes (make at)) (outside k) ≡ outside k
-        go true q = let z : _≡_ {A = ℕ} 0 1 = cc in absurd (omega arith)
+        go true q = clash cc
         go false q = refl

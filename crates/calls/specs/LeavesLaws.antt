@@ -1,5 +1,5 @@
 -- What every call on a tree leaves, whatever its checks and its program: RunLaws on the answer, the generator and the slices. In order: what is not
--- changed (`leaves-refused`, `leaves-kept`); steps (`leaves-steps`, `leaves-within`); other allowances (`leaves-larger`, `leaves-enough`); and how the
+-- changed (`leaves-refused`, `leaves-kept`); draws (`leaves-steps`, `leaves-within`, `leaves-draws`); other allowances (`leaves-larger`, `leaves-enough`); and how the
 -- program's run ended, by the answer (`leaves-moved`, `leaves-declined`, `leaves-infinite`, `leaves-outside`). Assumes nothing.
 use mathlib.Core.Path.{_≡_, refl, ap, _∙_}
 use Prim.Native.Nat.{ℕ, _≤_}
@@ -19,11 +19,8 @@ use Rattle.tree.specs.declared.Verdict.the-variants as Verdicts
 use Rattle.tree.specs.Tree.{Tree}
 use Rattle.tree.specs.Given.{treeOf}
 use Rattle.accepted.specs.RefusalLaws.{AtMost}
-use Rattle.calls.specs.Call.{Reply, makes, notFinite, outside, Ending, refused, given, ended, runCall, Outcome, declined, moved, calledOn, leaves}
-use Rattle.calls.specs.RunLaws.{run-given, run-steps, run-within, run-larger, run-enough}
-
-clash : {X : Type 0} → _≡_ {A = ℕ} 0 1 → X
-clash z = absurd (omega arith)
+use Rattle.calls.specs.Call.{Reply, makes, notFinite, outside, Ending, refused, given, ended, drawsMade, runCall, Outcome, declined, moved, calledOn, leaves}
+use Rattle.calls.specs.RunLaws.{clash, run-given, run-steps, run-within, run-draws, run-larger, run-enough}
 
 -- the call passed its checks, and its program's run ended in a reply
 pub record Replied (program : Draw (Reply Outcome)) (g : Random) (v : Verdict) (a : ℕ) (r : Reply Outcome) : Type 0 where
@@ -85,6 +82,17 @@ module _ (t : Tree) (program : Draw (Reply Outcome)) (g : Random) where
         go (given declined d h) e = run-within program g v a declined d h e
         go (given (moved u r) d h) e = run-within program g v a (moved u r) d h e
 
+    -- a call that is not refused says as many as its program makes
+    pub leaves-draws : ((why : Refusal) → leaves t g (runCall v program g a) .answer ≡ Answers.Refused why → ⊥)
+        → drawsOf (leaves t g (runCall v program g a) .answer) ≡ drawsMade program g a
+    unfolding leaves
+    leaves-draws = go ending refl
+      where
+        go : (x : Ending Outcome) → ending ≡ x → ((why : Refusal) → leaves t g x .answer ≡ Answers.Refused why → ⊥) → drawsOf (leaves t g x .answer) ≡ drawsMade program g a
+        go (refused why) e n = absurd (n why refl)
+        go (given declined d h) e n = run-draws program g v a declined d h e
+        go (given (moved u r) d h) e n = run-draws program g v a (moved u r) d h e
+
   -- ---- other allowances
 
   -- the checks say v of the allowance a, and w of b
@@ -95,20 +103,9 @@ module _ (t : Tree) (program : Draw (Reply Outcome)) (g : Random) where
     unfolding leaves
     leaves-larger y o n = rw y (ap (leaves t g) (run-larger program g v a b o (λ e. n (ap (λ (x : Ending Outcome). leaves t g x .answer) e))))
 
-    -- an allowance of as many draws as a call makes is enough where the checks let it pass: a 6 is answered only where more draws would be made
-    pub leaves-enough : (w ≡ Verdicts.Fine → v ≡ w) → a ≤ b → ((why : Refusal) → leaves t g (runCall w program g b) .answer ≡ Answers.Refused why → ⊥)
-        → drawsOf (leaves t g (runCall w program g b) .answer) ≤ a → leaves t g (runCall v program g a) ≡ leaves t g (runCall w program g b)
-    unfolding leaves
-    leaves-enough y k = go (runCall w program g b) refl
-      where
-        again : (o : Outcome) (d : ℕ) (i : Random) → d ≤ a → runCall w program g b ≡ given o d i → leaves t g (runCall v program g a) ≡ leaves t g (given o d i)
-        again o d i q e = rw (y (run-given program g w b o d i e .fine)) (ap (leaves t g) (run-enough program g w a b o d i q k e))
-
-        go : (x : Ending Outcome) → runCall w program g b ≡ x → ((why : Refusal) → leaves t g x .answer ≡ Answers.Refused why → ⊥) → drawsOf (leaves t g x .answer) ≤ a
-            → leaves t g (runCall v program g a) ≡ leaves t g x
-        go (refused why) e n q = absurd (n why refl)
-        go (given declined d i) e n q = again declined d i q e
-        go (given (moved u r) d i) e n q = again (moved u r) d i q e
+    -- an allowance of as many draws as the program makes is enough, whatever it ends in: a 6 is answered only where more draws would be made
+    pub leaves-enough : w ≡ v → a ≤ b → drawsMade program g b ≤ a → leaves t g (runCall v program g a) ≡ leaves t g (runCall w program g b)
+    leaves-enough y o m = rw y (ap (leaves t g) (run-enough program g v a b o m))
 
   -- ---- how the program's run ended
 

@@ -4,7 +4,6 @@ use mathlib.Core.Path.{_≡_, refl}
 use mathlib.Core.Logic.{_⊎_, inl, inr}
 use mathlib.Core.List.{List}
 use Prim.Native.Nat.{ℕ, _<_}
-use native.Mathlib.Omega.{arith}
 use lib.ListN.{length, getD, set}
 use lib.Ieee.{Float, nan, binary64, mul}
 use Rattle.answer.specs.declared.Ratio.{Ratio}
@@ -17,14 +16,12 @@ use Rattle.real.specs.declared.Optional.{Optional}
 use Rattle.real.specs.declared.Optional.the-variants.{Missing, Given}
 use Rattle.real.specs.Real.{positive}
 use Rattle.calls.specs.Change.{Change, declined, scaled}
+use Rattle.calls.specs.RunLaws.{clash}
 use Rattle.calls.specs.ChangeLaws.{value-made, value-unmade}
 use Rattle.calls.specs.StepLaws.{number-yields}
 use Rattle.scales.specs.Scalings.{Declines, Placed, PartScales}
 use Rattle.scales.specs.ScalingLaws.{placed-yields, placed-made, placed-unmade}
 use Rattle.clocks.specs.Clocks.{clockLimits, clockSigma, clockSigmaCall, branchRateOf, branchRate, branchRateCall}
-
-clash : {X : Type 0} → _≡_ {A = ℕ} 0 1 → X
-clash z = absurd (omega arith)
 
 -- ---- ClockSigmaScale
 
@@ -65,7 +62,8 @@ module _ (rates : List Float) (tuning : Float) (g : Random) (a : ℕ) where
 
   -- a call that scaled was given a clock, and left one of its rates times a factor
   pub rate-made : (sigma : Optional) (draws : ℕ) (r : Ratio) → branchRateCall sigma rates tuning g a .answer ≡ Proposals.Scaled draws r
-      → (i : ℕ) × (i < length rates) × PartScales (set rates i) tuning (mul binary64 (getD rates i nan)) positive (branchRateCall sigma rates tuning g a .value) r
+      → (x : Float) × (sigma ≡ Given x)
+      × (i : ℕ) × (i < length rates) × PartScales (set rates i) tuning (mul binary64 (getD rates i nan)) positive (branchRateCall sigma rates tuning g a .value) r
   unfolding branchRate run
   rate-made Missing draws r q =
       let c = value-made (clockLimits Missing rates tuning) (branchRate Missing rates tuning) rates g a draws r q in
@@ -75,8 +73,9 @@ module _ (rates : List Float) (tuning : Float) (g : Random) (a : ℕ) where
       let c = value-made (clockLimits (Given x) rates tuning) (branchRate (Given x) rates tuning) rates g a draws r q in
       go (indexed-yields (supplyOf g a) _ (c .supply) (c .ran))
     where
-      go : {w : List Float} → RateChange rates tuning (scaled w r) → (i : ℕ) × (i < length rates) × PartScales (set rates i) tuning (mul binary64 (getD rates i nan)) positive w r
-      go (at-index i l p) = (i, l, placed-made (set rates i) tuning (mul binary64 (getD rates i nan)) positive p)
+      go : {w : List Float} → RateChange rates tuning (scaled w r)
+          → (y : Float) × (Given x ≡ Given y) × (i : ℕ) × (i < length rates) × PartScales (set rates i) tuning (mul binary64 (getD rates i nan)) positive w r
+      go (at-index i l p) = (x, refl, i, l, placed-made (set rates i) tuning (mul binary64 (getD rates i nan)) positive p)
 
   -- one that declined has no clock, or has drawn an index and a factor for which the rate times it is not finite and positive
   pub rate-unmade : (sigma : Optional) (draws : ℕ) → branchRateCall sigma rates tuning g a .answer ≡ Proposals.Declined draws

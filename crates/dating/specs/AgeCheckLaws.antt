@@ -1,16 +1,14 @@
 -- The checks of a call of TipAge. In order: what is known of a table and of parameters that are fine (`judged-sound`, `within-fine`); what the checks pass
--- (`ages-fine`); that they say the same of two allowances within the limits (`ages-same`), and of one smaller than one that they pass (`ages-smaller`);
+-- (`ages-fine`); that they say the same of two allowances within the limits (`ages-same`);
 -- and that they refuse with 5 at most (`ages-few`). Assumes nothing.
 use mathlib.Core.Path.{_≡_, refl}
 use mathlib.Core.Bool.{Bool, true, false, _&&_}
 use mathlib.Core.List.{List}
-use Prim.Native.Nat.{ℕ, _≤_, _<_}
+use Prim.Native.Nat.{ℕ, _<_}
 use native.Mathlib.Omega.{arith}
 use lib.Dec.{T, eqb}
 use lib.ListN.{length}
 use lib.Ieee.{Float}
-use lib.Ieee.Bits.{is-true}
-use lib.Ieee.Fits.{and-r}
 use borrow.Author.Tests.{eq-eqb}
 use Rattle.answer.specs.declared.Refusal.the-variants.{Size}
 use Rattle.random.specs.Draw.{allowed}
@@ -22,15 +20,12 @@ use Rattle.accepted.specs.AcceptedLaws.{accepted-valid}
 use Rattle.accepted.specs.ValidatedLaws.{valid-fine}
 use Rattle.accepted.specs.RefusalLaws.{AtMost, either, validated-few, few-more}
 use Rattle.calls.specs.Call.{andThen, limited}
-use Rattle.calls.specs.CallLaws.{allows, allowed-top, then-few, limited-few}
+use Rattle.calls.specs.RunLaws.{clash}
+use Rattle.calls.specs.CallLaws.{then-few, limited-few}
 use Rattle.process.specs.declared.FossilizedBirthDeath.{FossilizedBirthDeath}
 use Rattle.process.specs.Process.{processFinite}
-use Rattle.ages.specs.CheckedLaws.{passed}
 use Rattle.ages.specs.Ages.{atFault, tableSized, orParameter, Judged, in-order, some-tip}
 use Rattle.dating.specs.TipAge.{agesChecked}
-
-pub clash : {X : Type 0} → _≡_ {A = ℕ} 0 1 → X
-clash z = absurd (omega arith)
 
 -- ---- what passes
 
@@ -80,19 +75,6 @@ module _ (minima maxima : List Float) (p : FossilizedBirthDeath) (t : Tree) (tab
   pub ages-same : (a b : ℕ) → allowed a ≡ true → allowed b ≡ true → agesChecked minima maxima p t b table ≡ agesChecked minima maxima p t a table
   unfolding agesChecked
   ages-same a b h k = rw (h, k)
-
-  -- where they pass an allowance they say the same of a smaller one
-  pub ages-smaller : (a b : ℕ) → 1 ≤ a → a ≤ b → agesChecked minima maxima p t b table ≡ Verdicts.Fine
-      → agesChecked minima maxima p t a table ≡ agesChecked minima maxima p t b table
-  ages-smaller a b h k y =
-      let p = within y in
-      let top = allowed-top b p in
-      ages-same b a p (allows a h (omega arith))
-    where
-      within : agesChecked minima maxima p t b table ≡ Verdicts.Fine → allowed b ≡ true
-      within y =
-          is-true (allowed b) (and-r (processFinite p) (allowed b)
-          (within-fine (processFinite p && allowed b) (passed minima maxima t (processFinite p && allowed b) table (unfold agesChecked in y) .within)))
 
   -- ---- refusals
 

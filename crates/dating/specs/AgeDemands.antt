@@ -1,6 +1,6 @@
 -- The client's demands on the calls of TipAge, whatever is said of the table: what every call on a tree leaves (calls/LeavesLaws) and `age-explained`
 -- (AgeExplainedLaws). In order: demand 1 (`age-ends`, `age-refused`); the draws made (`age-steps`, `age-within`); what a moved, a declined and a refused
--- call come from (`age-admitted`, `age-declined`, `age-kept`, `age-outside`, `age-finite`); other allowances (`age-larger`, `age-enough`); and that a call
+-- call come from (`age-admitted`, `age-declined`, `age-kept`, `age-outside`, `age-finite`); other allowances (`age-larger`, `age-draws`, `age-enough`); and that a call
 -- leaves an accepted tree (`age-accepted`, `age-stays`). Assumes nothing.
 use mathlib.Core.Path.{_≡_, subst}
 use mathlib.Core.Bool.{true, false, _&&_}
@@ -24,9 +24,9 @@ use Rattle.tree.specs.New.{Accepted}
 use Rattle.tree.specs.Valid.{Valid}
 use Rattle.accepted.specs.AcceptedLaws.{valid-accepted}
 use Rattle.accepted.specs.ValidatedLaws.{fine-valid}
-use Rattle.calls.specs.Call.{Reply, makes, notFinite, outside, Outcome, declined, moved, calledOn}
+use Rattle.calls.specs.Call.{Reply, makes, notFinite, outside, drawsMade, Outcome, declined, moved, calledOn}
 use Rattle.calls.specs.CallLaws.{allows}
-use Rattle.calls.specs.LeavesLaws.{Replied, leaves-refused, leaves-kept, leaves-steps, leaves-within, leaves-larger, leaves-enough, leaves-moved, leaves-declined, leaves-infinite, leaves-outside}
+use Rattle.calls.specs.LeavesLaws.{Replied, leaves-refused, leaves-kept, leaves-steps, leaves-within, leaves-draws, leaves-larger, leaves-enough, leaves-moved, leaves-declined, leaves-infinite, leaves-outside}
 use Rattle.moves.specs.Ends.{treeAfter, treeLeft, Ends}
 use Rattle.moves.specs.EndsLaws.{run-ends, left-so}
 use Rattle.process.specs.declared.FossilizedBirthDeath.{FossilizedBirthDeath}
@@ -36,7 +36,7 @@ use Rattle.ages.specs.CheckedLaws.{Passed, passed}
 use Rattle.dating.specs.TipAge.{tipAge, agesChecked, tipAgeCall}
 use Rattle.dating.specs.AgeEnds.{AgeAdmitted, AgeDeclined, AgeStrays, AgeExplained, is-moved, is-declined, is-outside}
 use Rattle.dating.specs.AgeExplainedLaws.{age-explained}
-use Rattle.dating.specs.AgeCheckLaws.{judged-sound, ages-fine, ages-same, ages-smaller, ages-few}
+use Rattle.dating.specs.AgeCheckLaws.{judged-sound, ages-fine, ages-same, ages-few}
 use Rattle.dating.specs.AgeValidLaws.{sound-age, tip-age-valid}
 
 module _ (minima maxima : List Float) (p : FossilizedBirthDeath) (t : Tree) (g : Random) (table : Verdict) where
@@ -129,11 +129,20 @@ module _ (minima maxima : List Float) (p : FossilizedBirthDeath) (t : Tree) (g :
       let y = ages-same minima maxima p t table a b (allows a h (omega arith)) (allows b (omega arith) k) in
       leaves-larger t program g (checks a) (checks b) a b y o
 
-  -- an allowance of as many draws as a call makes is enough: a 6 is answered only where more draws would be made
-  pub age-enough : (a b : ℕ) → 1 ≤ a → a ≤ b → ((why : Refusal) → tipAgeCall minima maxima p t g b table .answer ≡ Answers.Refused why → ⊥)
-      → drawsOf (tipAgeCall minima maxima p t g b table .answer) ≤ a → tipAgeCall minima maxima p t g a table ≡ tipAgeCall minima maxima p t g b table
+  -- a call that is not refused says as many draws as its program makes
+  pub age-draws : (a : ℕ) → ((why : Refusal) → tipAgeCall minima maxima p t g a table .answer ≡ Answers.Refused why → ⊥)
+      → drawsOf (tipAgeCall minima maxima p t g a table .answer) ≡ drawsMade (tipAge minima maxima t) g a
   unfolding tipAgeCall
-  age-enough a b h k = leaves-enough t program g (checks a) (checks b) a b (ages-smaller minima maxima p t table a b h k) k
+  age-draws a = leaves-draws t program g (checks a) a
+
+  -- an allowance of as many draws as the program makes is enough, whether the call moved, declined or ended in an 8: a 6 is answered only where more draws
+  -- would be made
+  pub age-enough : (a b : ℕ) → 1 ≤ a → a ≤ b → b ≤ 65535 → drawsMade (tipAge minima maxima t) g b ≤ a
+      → tipAgeCall minima maxima p t g a table ≡ tipAgeCall minima maxima p t g b table
+  unfolding tipAgeCall
+  age-enough a b h o k =
+      let y = ages-same minima maxima p t table a b (allows a h (omega arith)) (allows b (omega arith) k) in
+      leaves-enough t program g (checks a) (checks b) a b y o
 
   -- ---- what a call leaves is accepted
 

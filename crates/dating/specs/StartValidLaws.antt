@@ -42,7 +42,7 @@ use Rattle.ages.specs.Ages.{ageOf, atFault, Judged, tableChecked}
 use Rattle.ages.specs.CheckedLaws as Checks
 use Rattle.dating.specs.Initialize.{two, fourFifths, midpoint, oldest, stretch, Start, startOf, initialHeight, overflowsAt, initialTo, startFits, allFinite, orKept, initializeCall}
 use Rattle.dating.specs.AgeValidLaws.{Sound, sound-age}
-use Rattle.dating.specs.AgeCheckLaws.{clash, judged-sound, within-fine}
+use Rattle.dating.specs.AgeCheckLaws.{judged-sound, within-fine}
 
 -- ---- a tip's new height
 

@@ -4,7 +4,6 @@ use mathlib.Core.Path.{_≡_, refl}
 use mathlib.Core.Logic.{_⊎_, inl, inr}
 use mathlib.Core.Bool.{Bool, true, false, cond}
 use Prim.Native.Nat.{ℕ}
-use native.Mathlib.Omega.{arith}
 use lib.Ieee.{Float, binary64, add, sub, mul}
 use Rattle.answer.specs.declared.Ratio.{Ratio}
 use Rattle.answer.specs.declared.Proposal.the-variants as Proposals
@@ -12,6 +11,7 @@ use Rattle.random.specs.declared.Random.{Random}
 use Rattle.random.specs.declared.Supply.{Supply}
 use Rattle.random.specs.Draw.{return, _>>=_, run, got, supplyOf}
 use Rattle.calls.specs.Change.{Change, declined, scaled, onPart}
+use Rattle.calls.specs.RunLaws.{clash}
 use Rattle.calls.specs.ChangeLaws.{value-made, value-unmade}
 use Rattle.process.specs.declared.FossilizedBirthDeath.{FossilizedBirthDeath}
 use Rattle.process.specs.declared.ProcessPriors.{ProcessPriors}
@@ -20,9 +20,6 @@ use Rattle.scales.specs.Scalings.{Declines, Placed, PartScales}
 use Rattle.scales.specs.ScalingLaws.{placed-yields, placed-made, placed-unmade}
 use Rattle.fields.specs.declared.Field.{Field}
 use Rattle.fields.specs.Fields.{above, shifted, field, moveOf, valueOf, put, shiftOf, fbd, fbdLimits, fbdCall}
-
-clash : {X : Type 0} → _≡_ {A = ℕ} 0 1 → X
-clash z = absurd (omega arith)
 
 -- shift + (value − shift)·f for a field of a process
 abbrev pub moved : Field → FossilizedBirthDeath → Float → Float → Float

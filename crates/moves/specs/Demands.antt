@@ -1,7 +1,7 @@
 -- The client's demands on the calls of the seven tree moves: `explained` (ExplainedLaws) and what every call on a tree leaves (calls/LeavesLaws), on the
 -- answer, the generator and the slices. In order: demand 1 (`ends`, `refused-unchanged`); the draws made (`steps`, `within-allowance`);
 -- what a moved, a declined and a refused call come from (`admitted`, `accepted`, `declined`, `declined-unchanged`, `infinite`, `outside-interval`); other
--- allowances (`larger`, `enough`); demand 3 for what runs (`reversible`); and that a call leaves an accepted tree (`settled`, `kept`, `stays-settled`,
+-- allowances (`larger`, `draws-made`, `enough`); demand 3 for what runs (`reversible`); and that a call leaves an accepted tree (`settled`, `kept`, `stays-settled`,
 -- `stays-accepted`), tips at the present where they were (`stays-present`), and so does any number of calls (`run-accepted`, `run-present`). Assumes
 -- nothing.
 use mathlib.Core.Path.{_≡_, refl, sym, subst}
@@ -32,11 +32,11 @@ use Rattle.rules.specs.Moves as Reversibles
 use Rattle.rules.specs.Moves.{Reversible}
 use Rattle.reversal.specs.Back.{Kept}
 use Rattle.reversal.specs.Reversal.{makes-kept, reversal}
-use Rattle.calls.specs.Call.{Reply, makes, notFinite, outside, checked, callOf, Outcome, calledOn, treeCall}
+use Rattle.calls.specs.Call.{Reply, makes, notFinite, outside, drawsMade, checked, callOf, Outcome, calledOn, treeCall}
 use Rattle.calls.specs.Call as Call
 use Rattle.calls.specs.EntryLaws.{passed}
-use Rattle.calls.specs.CallLaws.{checked-few, allows, allowed-top, same-checks}
-use Rattle.calls.specs.LeavesLaws.{Replied, leaves-refused, leaves-kept, leaves-steps, leaves-within, leaves-larger, leaves-enough, leaves-moved, leaves-declined, leaves-infinite, leaves-outside}
+use Rattle.calls.specs.CallLaws.{checked-few, allows, same-checks}
+use Rattle.calls.specs.LeavesLaws.{Replied, leaves-refused, leaves-kept, leaves-steps, leaves-within, leaves-draws, leaves-larger, leaves-enough, leaves-moved, leaves-declined, leaves-infinite, leaves-outside}
 use Rattle.moves.specs.Moves.{Move, nodeHeight, subtreeSlide, narrowExchange, wideExchange, wilsonBalding, rootScale, treeScale, limits, program, moveCall}
 use Rattle.moves.specs.Explained.{Admits, Admitted, Declined, Overflows, Strays, Explained, is-moved, is-declined, is-infinite, is-outside}
 use Rattle.moves.specs.ExplainedLaws.{explained}
@@ -132,17 +132,18 @@ module _ (m : Move) (t : Tree) (g : Random) where
       let y = same-checks (limits m t) t a b (allows a h (omega arith)) (allows b (omega arith) k) in
       leaves-larger t (program m t) g (checked (limits m t) t a) (checked (limits m t) t b) a b y o
 
-  -- an allowance of as many draws as a call makes is enough: a 6 is answered only where more draws would be made
-  pub enough : (a b : ℕ) → 1 ≤ a → a ≤ b → ((why : Refusal) → moveCall m t g b .answer ≡ Answers.Refused why → ⊥) → drawsOf (moveCall m t g b .answer) ≤ a
-      → moveCall m t g a ≡ moveCall m t g b
+  -- a call that is not refused says as many draws as its program makes
+  pub draws-made : (a : ℕ) → ((why : Refusal) → moveCall m t g a .answer ≡ Answers.Refused why → ⊥) → drawsOf (moveCall m t g a .answer) ≡ drawsMade (program m t) g a
   unfolding treeCall callOf
-  enough a b h k = leaves-enough t (program m t) g (checked (limits m t) t a) (checked (limits m t) t b) a b same k
-    where
-      same : checked (limits m t) t b ≡ Verdicts.Fine → checked (limits m t) t a ≡ checked (limits m t) t b
-      same y =
-          let p = passed (limits m t) t b y .allows in
-          let top = allowed-top b p in
-          same-checks (limits m t) t b a p (allows a h (omega arith))
+  draws-made a = leaves-draws t (program m t) g (checked (limits m t) t a) a
+
+  -- an allowance of as many draws as the program makes is enough, whether the call moved, declined or ended in a 7 or an 8: a 6 is answered only where
+  -- more draws would be made
+  pub enough : (a b : ℕ) → 1 ≤ a → a ≤ b → b ≤ 65535 → drawsMade (program m t) g b ≤ a → moveCall m t g a ≡ moveCall m t g b
+  unfolding treeCall callOf
+  enough a b h o k =
+      let y = same-checks (limits m t) t a b (allows a h (omega arith)) (allows b (omega arith) k) in
+      leaves-enough t (program m t) g (checked (limits m t) t a) (checked (limits m t) t b) a b y o
 
 -- ---- demand 3
 

@@ -22,7 +22,7 @@ use Rattle.edits.specs.Slots.{slotOf, owner, put, swap, rotate, setHeight}
 use Rattle.rules.specs.Rules as Rules
 use Rattle.rules.specs.Samples.{0·0, 0·5, 1·0, 2·0, 3·0, five, F, F-at, exchanged, slid-at, grafted-at, flat, example, example-root}
 use Rattle.calls.specs.Call.{calledOn, given, treeCall, leaves, callOf, checked, ended}
-use Rattle.calls.specs.Draws.{nonRoot, internal, scaler, interpolated, drawnHeight, least}
+use Rattle.calls.specs.Draws.{nonRoot, internal, scaler, interpolated, drawnHeight, least, leastTuning}
 use Rattle.moves.specs.Programs as Programs
 use Rattle.moves.specs.Moves.{Move, nodeHeight, subtreeSlide, narrowExchange, wideExchange, wilsonBalding, rootScale, treeScale, moveCall, startCall}
 
@@ -192,15 +192,18 @@ pub record CallRows : Type 0 where
   pub slide-infinite : Refuses (subtreeSlide 0 largest) (F-at 0·0 0·0 0·0 largest largest) start 1 (Refusals.NotFinite 3)
   pub root-infinite : Refuses (rootScale 0·5) (F-at 0·0 0·0 0·0 1·0 largest) upper 9 (Refusals.NotFinite 4)
   pub tree-infinite : Refuses (treeScale 0·5) (F-at 0·0 0·0 0·0 largest largest) upper 9 (Refusals.NotFinite 3)
-  -- parameters outside their limits
+  -- parameters outside their limits, and at them
   pub tuning-over : Refuses (rootScale 2·0) F start 9 (Refusals.Parameter 0)
   pub tuning-over-tree : Refuses (treeScale 2·0) F start 9 (Refusals.Parameter 0)
   pub tuning-under : Refuses (rootScale under-least) F start 9 (Refusals.Parameter 0)
+  pub tuning-least : Declines (rootScale leastTuning) F start 9 1 after-one
   pub tuning-one : Moves (rootScale 1·0) F start 9 F (Power 1·0 (negsuc 0)) 1 after-one
   pub slide-root : Refuses (subtreeSlide 4 1·0) F start 9 (Refusals.Parameter 0)
   pub slide-past : Refuses (subtreeSlide 5 1·0) F start 9 (Refusals.Parameter 0)
   pub step-infinite : Refuses (subtreeSlide 0 Real.infinity) F start 9 (Refusals.Parameter 0)
   pub no-draws : Refuses wideExchange F start 0 (Refusals.Parameter 0)
+  pub most-draws : Moves wideExchange F start 65535 exchanged Even 5 after-five
+  pub draws-over : Refuses wideExchange F start 65536 (Refusals.Parameter 0)
   -- a tree's fault comes first
   pub tree-first : Refuses (rootScale 2·0) (F-at 0·0 0·0 3·0 1·0 2·0) start 0 (Refusals.Height 2)
 
@@ -249,10 +252,13 @@ call-rows = record {
   tuning-over = refl;
   tuning-over-tree = refl;
   tuning-under = refl;
+  tuning-least = refl;
   tuning-one = refl;
   slide-root = refl;
   slide-past = refl;
   step-infinite = refl;
   no-draws = refl;
+  most-draws = refl;
+  draws-over = refl;
   tree-first = refl;
 }

@@ -7,7 +7,7 @@ use lib.Signed.{ltZ}
 use lib.ListN.{getD}
 use lib.Ieee.{Float, binary64, toBits}
 use Rattle.answer.specs.declared.Ratio.{Ratio}
-use Rattle.answer.specs.declared.Ratio.the-variants as Ratios
+use Rattle.answer.specs.Answers.{Kind, even, counts, lengths, power, kindOf, Value, natural, real, integer, valuesOf}
 use Rattle.tree.specs.Tree.{nodesOf, tipsOf, firstIn, secondIn}
 use Rattle.text.specs.Text.{bytes, lineEnd, wordText, decimalText}
 
@@ -36,12 +36,25 @@ signedText k = cond (negative k) (bytes "-") [] ++ decimalText (natAbs k)
 unfoldable pub stateText : List ℕ → List ℕ
 stateText s = comma (wordText (getD s 0 0)) (comma (wordText (getD s 1 0)) (comma (wordText (getD s 2 0)) (wordText (getD s 3 0))))
 
+abbrev pub valueText : Value → List ℕ
+valueText (natural n) = decimalText n
+valueText (real x) = bitsText x
+valueText (integer k) = signedText k
+
+-- one of a ratio's two values
+abbrev pub ratioValue : Ratio → ℕ → List ℕ
+ratioValue r k = valueText (getD (valuesOf r) k (natural 0))
+
+-- a kind with its values, which `even` does without
+abbrev pub kindText : Kind → List ℕ → List ℕ
+kindText even values = bytes "even"
+kindText counts values = comma (bytes "counts") values
+kindText lengths values = comma (bytes "lengths") values
+kindText power values = comma (bytes "power") values
+
 -- "ratio kind with f and k"; "Ratio is otherwise `even`, `counts,a,b` or `lengths,a,b`"
 unfoldable pub ratioText : Ratio → List ℕ
-ratioText Ratios.Even = bytes "even"
-ratioText (Ratios.Counts a b) = comma (bytes "counts") (comma (decimalText a) (decimalText b))
-ratioText (Ratios.Lengths a b) = comma (bytes "lengths") (comma (bitsText a) (bitsText b))
-ratioText (Ratios.Power f k) = comma (bytes "power") (comma (bitsText f) (signedText k))
+ratioText r = kindText (kindOf r) (comma (ratioValue r 0) (ratioValue r 1))
 
 -- ---- the tree
 

@@ -6,7 +6,7 @@ use Prim.Native.Nat.{ℕ, _+_, _*_, _/_, _≤_, _<_}
 use native.Mathlib.Omega.{arith}
 use borrow.Author.Tests.{lt-ltb, le-ltb, le-leb, lt-leb}
 use lib.ListN.{length, take}
-use lib.Seq.{length-take-le}
+use lib.Seq.{length-take-le, take-at}
 use lib.Ieee.{Float}
 use Rattle.answer.specs.declared.Refusal.the-variants.{Size, Line}
 use Rattle.tree.specs.Tree.{nodesOf}
@@ -54,8 +54,8 @@ module _ (s ps₀ ps qs : List ℕ) (hs₀ hs : List Float) (room : Room ps₀ q
         let m : n + n ≡ 2 * nodesFor (head .tips) = omega arith in
         let a : 2 * nodesFor (head .tips) ≤ length ps₀ = omega (arith, room .places) in
         let b : nodesFor (head .tips) ≤ length hs₀ = omega arith in
-        let p : take (n + n) ps ≡ held .tree .pairs = ap (λ (k : ℕ). take k ps) m ∙ held .shown .pairsHeld a in
-        let q : take n hs ≡ held .tree .heights = ap (λ (k : ℕ). take k hs) en ∙ held .shown .heightsHeld b in
+        let p : take (n + n) ps ≡ held .tree .pairs = ap (take (n + n)) (held .shown .pairsHeld a) ∙ take-at (held .tree .pairs) _ (n + n) (held .shown .places ∙ sym m) in
+        let q : take n hs ≡ held .tree .heights = ap (take n) (held .shown .heightsHeld b) ∙ take-at (held .tree .heights) _ n (held .shown .nodes ∙ sym en) in
         rw (held .is) (h ∙ (λ i. delivered out (stateReply (stateOf head (nodes (p i) (q i))))))
 
 pub ruleset readLaws = (file-wrong, file-large, file-state)

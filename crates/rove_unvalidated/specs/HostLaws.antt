@@ -16,6 +16,7 @@ use Rattle.random.specs.Generator.{after}
 use Rattle.random.specs.Draw.{allowed}
 use Rattle.tree.specs.New.{Accepted}
 use Rattle.calls.specs.Call.{Called}
+use Rattle.calls.specs.RunLaws.{clash}
 use Rattle.moves.specs.Moves.{Move, limits}
 use Rattle.moves.specs.StartLaws.{accepted-start}
 use Rattle.record.specs.Record.{isRecord, generatorIn, allowanceIn, withGenerator, replied, refusedReply, declinedReply, answered, proposed}
@@ -31,9 +32,6 @@ pub record RefusedExport (pairs parents : List ℕ) (heights : List Float) (word
 pub record DeclinedExport (pairs parents : List ℕ) (heights : List Float) (words : List ℕ) (l : Left) : Type 0 where
   pub draws : ℕ
   pub is : l ≡ left (replied (declinedReply draws) (withGenerator (after draws (generatorIn words)) words)) pairs parents heights
-
-clash : {X : Type 0} → _≡_ {A = ℕ} 0 1 → X
-clash z = absurd (omega arith)
 
 module _ (m : Move) (pairs parents : List ℕ) (heights : List Float) (words : List ℕ) where
   -- of an accepted tree, what the checked function leaves

@@ -21,8 +21,8 @@ pub record StarredRows : Type 0 where
   pub narrow-at-4 : Row NarrowExchange F (narrow 4 true) exchanged (Counts 1 1)
   -- "Wide 0,2 gives that tree, even"
   pub wide-0-2 : Row WideExchange F (wide 0 2) exchanged Even
-  -- "Slide 0 to height 3: 3=(0,4), 4=(1,2), root 3, counts 1,2"
-  pub slide-up : Row SubtreeSlide F (slide 0 3·0 0) (slid-at 0·0 0·0) (Counts 1 2)
+  -- "Slide 0 to height 3: 3=(0,4), 4=(1,2), root 3, counts 1,2", whatever the index is
+  pub slide-up : (index : ℕ) → Row SubtreeSlide F (slide 0 3·0 index) (slid-at 0·0 0·0) (Counts 1 2)
   -- "From there slide 0 to height 1, index 0: F, counts 2,1"
   pub slide-down : Row SubtreeSlide (slid-at 0·0 0·0) (slide 0 1·0 0) F (Counts 2 1)
   -- "WilsonBalding 0 onto 2 at 1.5: 3=(0,2), 4=(1,3), lengths 2,2"
@@ -42,7 +42,7 @@ starred-rows = record {
   generator = generator-rows;
   narrow-at-4 = row refl tt refl refl refl;
   wide-0-2 = row refl tt refl refl refl;
-  slide-up = row refl tt refl refl refl;
+  slide-up = λ index. row refl tt refl refl refl;
   slide-down = row refl tt refl refl refl;
   wilson-0-onto-2 = row refl tt refl refl refl;
   wilson-declined = λ j x. rw (or-true (eqb j 4));

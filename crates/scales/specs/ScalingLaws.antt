@@ -5,7 +5,6 @@ use mathlib.Core.Path.{_≡_, refl, sym, ap, _∙_, subst}
 use mathlib.Core.Logic.{_⊎_, inl, inr}
 use mathlib.Core.Bool.{Bool, true, false, cond, _&&_, and-eq-true-iff}
 use Prim.Native.Nat.{ℕ, _<_}
-use native.Mathlib.Omega.{arith}
 use lib.IntN.{ℤ, negsuc}
 use lib.Dec.{leb}
 use lib.Ieee.{Float, binary64, eq, mul}
@@ -27,6 +26,7 @@ use Rattle.real.specs.Real as Real
 use Rattle.real.specs.Real.{positive, notNegative}
 use Rattle.rules.specs.Rules.{within}
 use Rattle.calls.specs.Change.{Change, declined, scaled, inPlace, onPart, Proposed, proposed}
+use Rattle.calls.specs.RunLaws.{clash}
 use Rattle.calls.specs.ChangeLaws.{value-limits, value-declined, value-scaled, value-made, value-unmade}
 use Rattle.calls.specs.Chosen.{Factor}
 use Rattle.calls.specs.Draws.{tuned}
@@ -84,9 +84,6 @@ module _ {P : Type 0} (put : Float → P) (tuning : Float) (make : Float → Flo
 module _ (value upper tuning : Float) (g : Random) (a : ℕ) where
   abbrev admits : Float → Bool
   admits x = within Real.zero x upper
-
-  clash : {X : Type 0} → _≡_ {A = ℕ} 0 1 → X
-  clash z = absurd (omega arith)
 
   -- the run of the program, by whether the value is a zero
   ran : (c : Change Float) (u : Supply) → run (scale value upper tuning) (supplyOf g a) ≡ got c u

@@ -4,8 +4,8 @@ use mathlib.Core.Path.{_≡_, refl, sym, ap, _∙_, subst}
 use mathlib.Core.List.{List, [], _∷_, _++_, map}
 use Prim.Native.Nat.{ℕ, suc, _+_, _-_, _*_, _≤_, _<_}
 use native.Mathlib.Omega.{arith}
-use lib.ListN.{length, take, drop, length-map, drop-of-length-le}
-use lib.Seq.{drop-cons, take-at}
+use lib.ListN.{length, drop, length-map, drop-of-length-le}
+use lib.Seq.{drop-cons}
 use lib.Ieee.{Float}
 use Rattle.forms.specs.Forms.{pairLine, heightLine}
 use Rattle.statefile.specs.Lines.{Found, wrong, found, return, onward, _>>=_, each, end}
@@ -82,10 +82,8 @@ module _ (tips at : ℕ) (s p₀ : List ℕ) (h₀ : List Float) (r : LinesRead)
           long : length (map real (dates .values)) ≡ nodesFor tips
           long = length-map (dates .values) real ∙ dates .long ∙ ec
 
-          first : nodesFor tips ≤ length h₀ → take (nodesFor tips) h ≡ map real (dates .values)
-          first m =
-              let is : h ≡ map real (dates .values) ++ drop (0 + 1 * c) h₀ = dates .held (omega arith) in
-              ap (take (nodesFor tips)) is ∙ take-at (map real (dates .values)) (drop (0 + 1 * c) h₀) (nodesFor tips) long
+          first : nodesFor tips ≤ length h₀ → h ≡ map real (dates .values) ++ drop (nodesFor tips) h₀
+          first m = let all : 0 + 1 * c ≡ nodesFor tips = omega arith in dates .held (omega arith) ∙ ap (λ (x : ℕ). map real (dates .values) ++ drop x h₀) all
 
 pub ruleset treeLaws = (tree-pairs, tree-heights, tree-over, tree-all)
 
@@ -107,6 +105,6 @@ module _ (s p₀ : List ℕ) (h₀ : List Float) (a : HeadRead) (ea : headGiven 
     unfolding onward _>>=_ return state stateFile
     file-all e m =
         let w : Grown (x .tips) (tree (x .tips) 8 (drop at s)) p₀ p h₀ h = subst (λ (y : LinesRead). grown (x .tips) at s p₀ h₀ y p h) m g in
-        record { tree = w .tree; is = rw (← ea, pa, w .is); shown = w .shown }
+        record { rest = drop at s; front = sym ea ∙ ap (headGiven s) pa; tree = w .tree; is = rw (← ea, pa, w .is); shown = w .shown }
 
 pub ruleset fileLaws = (file-head, file-tree, file-all)

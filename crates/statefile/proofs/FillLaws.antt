@@ -7,7 +7,7 @@ use native.Mathlib.Nat.{add-zero, sub-zero, mul-zero}
 use native.Mathlib.Numerals.{add-one}
 use native.Mathlib.Omega.{arith}
 use lib.ListN.{length, set, take, drop, replicate, length-set, length-append, length-drop, length-map, length-replicate, replicate-append-replicate, take-append-drop}
-use lib.Seq.{drop-cons, take-at, set-at, set-out, length-take-le}
+use lib.Seq.{drop-cons, drop-drop, take-at, drop-at, set-at, set-out, length-take-le}
 use lib.Ieee.{Float, binary64, ofBits}
 use Rattle.text.specs.Rules.{Rule, Parsed, malformed, parsed}
 use Rattle.text.specs.Places.{numbered}
@@ -242,13 +242,12 @@ module _ (tips at : ℕ) (s out₀ out₁ out : List ℕ) (from count : ℕ) (m 
       all : from + 2 * count ≡ 2 * nodesFor tips
       all = omega arith
 
-      held : 2 * nodesFor tips ≤ length out₀ → take (2 * nodesFor tips) out ≡ withTips tips (p .values)
+      held : 2 * nodesFor tips ≤ length out₀ → out ≡ withTips tips (p .values) ++ drop (2 * nodesFor tips) out₀
       held h =
           let was : out₁ ≡ replicate from noNode ++ drop from out₀ = m .held (omega arith) in
           let marks : take from out₁ ≡ replicate from noNode = ap (take from) was ∙ take-at (replicate from noNode) (drop from out₀) from (length-replicate {A = ℕ} from noNode) in
-          let is : out ≡ (replicate from noNode ++ slots (p .values)) ++ drop (from + 2 * count) out₁ = p .held (omega (arith, m .same)) ∙ ap (λ (x : List ℕ). (x ++ slots (p .values)) ++ drop (from + 2 * count) out₁) marks in
-          let long : length (replicate from noNode ++ slots (p .values)) ≡ 2 * nodesFor tips
-          = length-append (replicate from noNode) (slots (p .values)) ∙ (λ i. length-replicate {A = ℕ} from noNode i + slots-long (p .values) i) ∙ ap (λ (x : ℕ). from + 2 * x) (p .long) ∙ all in
-          ap (take (2 * nodesFor tips)) is ∙ take-at (replicate from noNode ++ slots (p .values)) (drop (from + 2 * count) out₁) (2 * nodesFor tips) long ∙ ap (λ (x : ℕ). replicate x noNode ++ slots (p .values)) twice
+          let past : drop from out₁ ≡ drop from out₀ = ap (drop from) was ∙ drop-at (replicate from noNode) (drop from out₀) from (length-replicate {A = ℕ} from noNode) in
+          let rest : drop (from + 2 * count) out₁ ≡ drop (from + 2 * count) out₀ = sym (drop-drop (2 * count) from out₁) ∙ ap (drop (2 * count)) past ∙ drop-drop (2 * count) from out₀ in
+          p .held (omega (arith, m .same)) ∙ (λ i. (marks i ++ slots (p .values)) ++ rest i) ∙ (λ i. (replicate (twice i) noNode ++ slots (p .values)) ++ drop (all i) out₀)
 
 pub ruleset plantLaws = (plants)

@@ -8,7 +8,7 @@ use lib.Ieee.{Float}
 use Rattle.tree.specs.Tree.{noNode}
 use Rattle.forms.specs.Forms.{pairLine, heightLine}
 use Rattle.statefile.specs.Lines.{Found, wrong, found, each}
-use Rattle.statefile.specs.StateFile.{Nodes, Reading, faulty, read, slots, withTips, real, nodesFor, tree, stateOf, stateFile}
+use Rattle.statefile.specs.StateFile.{Nodes, Reading, faulty, read, slots, withTips, real, nodesFor, head, tree, stateOf, stateFile}
 use Rattle.statefile.specs.declared.Supplied.{Supplied}
 use Rattle.statefile.specs.declared.Asked.{Asked}
 use Rattle.statefile.specs.declared.Head.{Head}
@@ -70,12 +70,12 @@ pub record Marked (count : ℕ) (out₀ out : List ℕ) : Type 0 where
   pub same : length out ≡ length out₀
   pub held : count ≤ length out₀ → out ≡ replicate count noNode ++ drop count out₀
 
--- the pairs of the internal nodes, and the slice: it starts with the tips' marks and these pairs, where there is room for all
+-- the pairs of the internal nodes, and the slice: it holds the tips' marks and these pairs, and then what it held, where there is room for all
 pub record Planted (tips : ℕ) (all : Found (List (ℕ × ℕ))) (k : ℕ) (rest : List ℕ) (out₀ out : List ℕ) : Type 0 where
   pub values : List (ℕ × ℕ)
   pub are : all ≡ found values k rest
   pub long : length values ≡ tips - 1
-  pub held : 2 * nodesFor tips ≤ length out₀ → take (2 * nodesFor tips) out ≡ withTips tips values
+  pub held : 2 * nodesFor tips ≤ length out₀ → out ≡ withTips tips values ++ drop (2 * nodesFor tips) out₀
 
 abbrev pub planted : ℕ → ℕ → List ℕ → List ℕ → LinesRead → List ℕ → Type 0
 planted tips at s out₀ (LinesRead.Upto i) out = Planted tips (each (tips - 1) pairLine 8 (drop at s)) (8 + (tips - 1)) (drop i s) out₀ out
@@ -83,12 +83,12 @@ planted tips at s out₀ (LinesRead.Wrong n) out = each (tips - 1) pairLine 8 (d
 
 -- ---- a tree, and the whole file
 
--- the nodes of so many tips, and the slices: they start with these nodes, where there is room for all
+-- the nodes of so many tips, and the slices: each holds these nodes, and then what it held, where it has room for all
 pub record Shown (tips : ℕ) (t : Nodes) (pairs₀ pairs : List ℕ) (heights₀ heights : List Float) : Type 0 where
   pub places : length (t .pairs) ≡ 2 * nodesFor tips
   pub nodes : length (t .heights) ≡ nodesFor tips
-  pub pairsHeld : 2 * nodesFor tips ≤ length pairs₀ → take (2 * nodesFor tips) pairs ≡ t .pairs
-  pub heightsHeld : nodesFor tips ≤ length heights₀ → take (nodesFor tips) heights ≡ t .heights
+  pub pairsHeld : 2 * nodesFor tips ≤ length pairs₀ → pairs ≡ t .pairs ++ drop (2 * nodesFor tips) pairs₀
+  pub heightsHeld : nodesFor tips ≤ length heights₀ → heights ≡ t .heights ++ drop (nodesFor tips) heights₀
 
 pub record Grown (tips : ℕ) (all : Found Nodes) (pairs₀ pairs : List ℕ) (heights₀ heights : List Float) : Type 0 where
   pub tree : Nodes
@@ -101,7 +101,10 @@ abbrev pub grown : ℕ → ℕ → List ℕ → List ℕ → List Float → Line
 grown tips at s pairs₀ heights₀ (LinesRead.Upto i) pairs heights = Grown tips (tree tips 8 (drop at s)) pairs₀ pairs heights₀ heights
 grown tips at s pairs₀ heights₀ (LinesRead.Wrong n) pairs heights = tree tips 8 (drop at s) ≡ wrong n
 
+-- the lines before the tree say h, and the file the state of h with a tree
 pub record Held (s : List ℕ) (h : Head) (pairs₀ pairs : List ℕ) (heights₀ heights : List Float) : Type 0 where
+  pub rest : List ℕ
+  pub front : head 1 s ≡ found h 8 rest
   pub tree : Nodes
   pub is : stateFile s ≡ read (stateOf h tree)
   pub shown : Shown (h .tips) tree pairs₀ pairs heights₀ heights

@@ -297,7 +297,7 @@ fn read_tree(
     }
 }
 
-// A whole file. The slices start with the tree's pairs and heights where they have room for all; after a fault they hold what came before it.
+// A whole file. Each slice starts with the tree's pairs or heights and keeps the rest, where it has room for all; without, or after a fault, what it holds is not said.
 pub fn read_state(file: &[u8], pairs: &mut [u16], heights: &mut [f64]) -> FileRead
     ensures { λ r. ⌜ fileGiven (now (file .entry)) (now (pairs .entry)) (now (heights .entry)) r (now (pairs .exit)) (now (heights .exit)) ⌝ }
 {
