@@ -15,7 +15,7 @@ use record::NO_RECORD;
 use record::Reply;
 
 // The move of a number, if it is one's.
-pub enum Named {
+enum Named {
     Is(Move),
     Nothing,
 }
@@ -56,7 +56,9 @@ pub extern "C" fn rove_scaler(words: &mut [u64]) -> u64
     ensures { λ r. ⌜ written r (now (words .exit)) ≡ scalerExported (now (words .entry)) ⌝ }
 {
     if record::is_record(words) {
-        let factor = calls::scaler(record::tuning(words), record::real_at(words, 13));
+        let tuning = record::tuning(words);
+        let uniform = record::real_at(words, 13);
+        let factor = calls::scaler(tuning, uniform);
         return record::put_given(words, 0, real::to_bits(factor), 0);
     }
     NO_RECORD
