@@ -42,6 +42,11 @@ fn is_float(call: &Called, x: f64) -> Compared<&'static str> {
     Ok("given")
 }
 
+/// An answer of one of the functions, whose name a difference begins with.
+fn of(name: &str, answer: Compared<&'static str>) -> Compared<&'static str> {
+    answer.map_err(|fault| format!("{name}, {fault}"))
+}
+
 fn is_flag(call: &Called, holds: bool) -> Compared<&'static str> {
     call.is(0, &answered(0, 0, 0, u64::from(holds), 0))?;
     Ok(if holds { "yes" } else { "no" })
@@ -66,12 +71,12 @@ fn draws(chance: &mut Chance, tally: &mut Tally) -> Compared<()> {
         };
         let call = called(record, if coin { exports::rove_coin } else { exports::rove_uniform });
         let after = rust.as_ref().map_or([0; 4], reference::state);
-        call.is(0, &[&stepped(after)[..], &answered(0, 1, 0, drawn, 0)].concat())?;
+        let answer = call.is(0, &[&stepped(after)[..], &answered(0, 1, 0, drawn, 0)].concat());
+        tally.also(name, of(name, answer.map(|()| "given"))?, 1);
         let by_type = if coin { u64::from(typed.coin()) } else { typed.uniform().to_bits() };
         if by_type != drawn || typed.state() != after {
             return Err(format!("{name} by the wrapper: {by_type:x} and not {drawn:x}, from {from:x?}"));
         }
-        tally.also(name, "given", 2);
         record = call.after;
     }
     Ok(())
@@ -101,10 +106,10 @@ fn lengths(chance: &mut Chance, tally: &mut Tally) -> Compared<()> {
     let told = |fault| format!("{}{fault}", slices(&tree));
     for node in 0..rust.nodes() {
         let answer = is_float(&branch_call(chance, &tree, node as u64), rust.branch_length(node));
-        tally.also("branch_length", answer.map_err(told)?, 1);
+        tally.also("branch_length", of("branch_length", answer.map_err(told))?, 1);
     }
     let answer = is_float(&tree_call(chance, &tree), rust.tree_length());
-    tally.also("tree_length", answer.map_err(told)?, 1);
+    tally.also("tree_length", of("tree_length", answer.map_err(told))?, 1);
     let node = chance.below(rust.nodes());
     let typed = [tree.branch_length(node), tree.tree_length()].map(|length| length.map(f64::to_bits));
     if typed == [Ok(rust.branch_length(node).to_bits()), Ok(rust.tree_length().to_bits())] {
@@ -155,7 +160,7 @@ fn wrong_lengths(chance: &mut Chance, tally: &mut Tally) -> Compared<()> {
             Ok(length) => is_float(&call, length),
             Err(why) => call.is_refused(why),
         };
-        tally.also(name, answer.map_err(|fault| format!("{}{fault}", slices(&tree)))?, 1);
+        tally.also(name, of(name, answer.map_err(|fault| format!("{}{fault}", slices(&tree))))?, 1);
     }
     Ok(())
 }
@@ -259,11 +264,11 @@ fn table(chance: &mut Chance, tally: &mut Tally) -> Compared<()> {
     let kinds = Move::ALL.get(at).map(|&kind| (kind, rove::Move::ALL[at]));
     let call = called(record.clone(), exports::rove_initial_tuning);
     let answer = match kinds.map(|(kind, _)| kind.initial_tuning()) {
-        Some(Some(tuning)) => is_float(&call, tuning)?,
-        Some(None) => call.is(1, &answered(1, 0, 0, 0, 0)).map(|()| "declined")?,
-        None => call.is_refused(Refusal::Parameter(0))?,
+        Some(Some(tuning)) => is_float(&call, tuning),
+        Some(None) => call.is(1, &answered(1, 0, 0, 0, 0)).map(|()| "declined"),
+        None => call.is_refused(Refusal::Parameter(0)),
     };
-    tally.also("initial_tuning", answer, 1);
+    tally.also("initial_tuning", of("initial_tuning", answer)?, 1);
     if let Some((kind, typed)) = kinds {
         let same = typed.initial_tuning() == kind.initial_tuning();
         if !same || format!("{typed:?}") != format!("{kind:?}") {
@@ -273,10 +278,10 @@ fn table(chance: &mut Chance, tally: &mut Tally) -> Compared<()> {
     for (name, call, rust, typed) in CHANGES {
         let call = called(record.clone(), call);
         let answer = match kinds {
-            Some((kind, _)) => is_flag(&call, rust(kind))?,
-            None => call.is_refused(Refusal::Parameter(0))?,
+            Some((kind, _)) => is_flag(&call, rust(kind)),
+            None => call.is_refused(Refusal::Parameter(0)),
         };
-        tally.also(name, answer, 1);
+        tally.also(name, of(name, answer)?, 1);
         if kinds.is_some_and(|(kind, of)| typed(of) != rust(kind)) {
             return Err(format!("{name} of {kinds:?} by the wrapper"));
         }
