@@ -12,7 +12,7 @@
  * The record. The first slice of a call, `words`, is its record: at least ROVE_WORDS 64-bit words, by which it is given its numbers and by which it
  * answers. A float stands in a word by its bits (rove_bits, rove_real); every NaN is one and the same. Every call takes any words and any slices.
  *
- * The answer. A call returns its answer code, ROVE_DONE to ROVE_NO_RECORD, and writes it into word ROVE_ANSWER too:
+ * The answer. A call returns its answer code, ROVE_DONE to ROVE_NO_RECORD. All but rove_seed write it into word ROVE_ANSWER too, if there is a record:
  *   done      words 0-3 the generator after the draws made, where it made any; ROVE_ROOT after a move or rove_new; ROVE_ANSWER to ROVE_SECOND; the
  *             slices and parameters that the call changes;
  *   declined  words 0-3, and ROVE_ANSWER to ROVE_SECOND;
@@ -20,7 +20,8 @@
  *   no record (fewer than ROVE_WORDS words) nothing at all.
  * All other words stay as they came.
  *
- * The archives, for x86-64 Linux: librove.a has the functions from rove_seed to rove_tree_scale, librove_unvalidated.a those whose names end in _unvalidated,
+ * The archives, for x86-64 Linux: librove_values.a has rove_uniform, rove_coin, rove_scaler, rove_branch_length, rove_tree_length, rove_estimates and
+ * the table of moves; librove.a the other functions from rove_seed to rove_tree_scale, librove_unvalidated.a those whose names end in _unvalidated,
  * librove_answer.a rove_answer, and librove_parameters.a those on parameters. `rt staticlib` writes each. */
 #ifndef ROVE_H
 #define ROVE_H
@@ -40,7 +41,7 @@ enum {
     ROVE_GENERATOR = 0,  /* in and out: four words, the generator's state */
     ROVE_ROOT = 4,       /* in, and out where it changes: the root */
     ROVE_ALLOWANCE = 5,  /* in: how many draws the call may make, 1 to 65,535 */
-    ROVE_NODE = 6,       /* in: a node, an index, a field, or an n; out: the node of rove_slide_start */
+    ROVE_NODE = 6,       /* in: a node, an index, a field, a move, or an n; out: the node of rove_slide_start */
     ROVE_TUNING = 7,     /* in: the bits of a scale's tuning, from 1e-8 to 1, or of a slide's step */
     ROVE_ANSWER = 8,     /* out: the answer code */
     ROVE_DRAWS = 9,      /* out: the draws made; 0 when refused */
@@ -56,7 +57,7 @@ enum { ROVE_NO_NODE = 65535 };
 /* The answer code. */
 enum {
     ROVE_DONE = 0,     /* moved, scaled, made, drawn, in order */
-    ROVE_DECLINED = 1, /* the move is not made: the Rust's None; of rove_yule_log_density: minus infinity */
+    ROVE_DECLINED = 1, /* the Rust's None: the move is not made, or of rove_initial_tuning has none; of rove_yule_log_density: minus infinity */
     ROVE_REFUSED = 2,  /* the call is turned back */
     ROVE_NO_RECORD = 3 /* fewer than ROVE_WORDS words */
 };
@@ -108,6 +109,13 @@ uint64_t rove_next_u64(uint64_t *words, size_t words_len);
 /* A number below ROVE_NODE, which is 1 to 2^32, into ROVE_FIRST. */
 uint64_t rove_below(uint64_t *words, size_t words_len);
 
+/* One draw, into ROVE_FIRST: as a float on [0, 1), by its bits; and as a side, 1 being the first and 0 the other. Neither asks for an allowance. */
+uint64_t rove_uniform(uint64_t *words, size_t words_len);
+uint64_t rove_coin(uint64_t *words, size_t words_len);
+
+/* The factor of a scale, s + u * (1/s - s), its bits into ROVE_FIRST: the tuning s is in ROVE_TUNING, a uniform u in word 13. Draws nothing. */
+uint64_t rove_scaler(uint64_t *words, size_t words_len);
+
 /* ---- the tree */
 
 /* Tree::new: fills the parents, and ROVE_ROOT. */
@@ -121,6 +129,12 @@ uint64_t rove_validate(uint64_t *words, size_t words_len, const uint16_t *pairs,
 /* Every node with both children before their parent, into `order`, which has one place for each node. */
 uint64_t rove_postorder(uint64_t *words, size_t words_len, const uint16_t *pairs, size_t pairs_len, const uint16_t *parents, size_t parents_len,
                         const double *heights, size_t heights_len, uint16_t *order, size_t order_len);
+
+/* The length of the branch above ROVE_NODE, 0 above the root; and that of all branches, added up in the order of the nodes: the bits into ROVE_FIRST.
+ * Neither validates. Parents and heights of different lengths are refused with 1 and the number of parents, a node or its parent that is none with 5. */
+uint64_t rove_branch_length(uint64_t *words, size_t words_len, const uint16_t *parents, size_t parents_len, const double *heights,
+                            size_t heights_len);
+uint64_t rove_tree_length(uint64_t *words, size_t words_len, const uint16_t *parents, size_t parents_len, const double *heights, size_t heights_len);
 
 /* ---- the moves. Each is given ROVE_GENERATOR, ROVE_ROOT and ROVE_ALLOWANCE. */
 
@@ -166,7 +180,49 @@ uint64_t rove_root_scale_unvalidated(uint64_t *words, size_t words_len, const ui
 uint64_t rove_tree_scale_unvalidated(uint64_t *words, size_t words_len, const uint16_t *pairs, size_t pairs_len, const uint16_t *parents,
                                      size_t parents_len, double *heights, size_t heights_len);
 
+/* ---- the table of moves */
+
+/* The moves by their numbers, in the Rust's order. The functions of the table are given one in ROVE_NODE; any other number is refused with 5. */
+enum {
+    ROVE_MOVE_FBD_BIRTH_SCALE = 0,
+    ROVE_MOVE_FBD_DEATH_SCALE = 1,
+    ROVE_MOVE_FBD_SAMPLING_SCALE = 2,
+    ROVE_MOVE_FBD_RHO_LOGIT = 3,
+    ROVE_MOVE_FBD_ORIGIN_SCALE = 4,
+    ROVE_MOVE_TIP_AGE = 5,
+    ROVE_MOVE_CLOCK_RATE_SCALE = 6,
+    ROVE_MOVE_NODE_HEIGHT = 7,
+    ROVE_MOVE_SUBTREE_SLIDE = 8,
+    ROVE_MOVE_NARROW_EXCHANGE = 9,
+    ROVE_MOVE_WIDE_EXCHANGE = 10,
+    ROVE_MOVE_WILSON_BALDING = 11,
+    ROVE_MOVE_ROOT_SCALE = 12,
+    ROVE_MOVE_TREE_SCALE = 13,
+    ROVE_MOVE_BIRTH_DIFFERENCE_SCALE = 14,
+    ROVE_MOVE_RELATIVE_DEATH_SCALE = 15,
+    ROVE_MOVE_GAMMA_SHAPE_SCALE = 16,
+    ROVE_MOVE_CLOCK_SIGMA_SCALE = 17,
+    ROVE_MOVE_BRANCH_RATE_SCALE = 18,
+    ROVE_MOVE_NODE_TIME_RATES = 19,
+    ROVE_MOVE_ROOT_TIME_RATES = 20,
+    ROVE_MOVE_CLOCK_SIGMA_RATES = 21,
+    ROVE_MOVE_NARROW_EXCHANGE_RATES = 22,
+    ROVE_MOVE_BIRTH_RATE_SCALE = 23,
+    ROVE_MOVE_MORPHOLOGY_RATE_SCALE = 24
+};
+
+/* The slide's size or the scale's tuning that a move starts with, its bits into ROVE_FIRST; ROVE_DECLINED for a move that has none. */
+uint64_t rove_initial_tuning(uint64_t *words, size_t words_len);
+
+/* Whether a move changes the fossilized birth-death process; the tree, its heights or its shape; the tree's shape. 1 or 0 into ROVE_FIRST. */
+uint64_t rove_changes_fbd(uint64_t *words, size_t words_len);
+uint64_t rove_changes_tree(uint64_t *words, size_t words_len);
+uint64_t rove_changes_topology(uint64_t *words, size_t words_len);
+
 /* ---- the state file */
+
+/* No answer to a state file has more bytes. */
+enum { ROVE_LONGEST_ANSWER = 131072 };
 
 /* The answer to a state file, as text: how many bytes of `answer` were written, or 0 where it is too short, which then stays as it is. */
 size_t rove_answer(const uint8_t *file, size_t file_len, uint8_t *answer, size_t answer_len);
@@ -222,6 +278,9 @@ uint64_t rove_fbd_scale(uint64_t *words, size_t words_len);
 
 /* Whether the priors in words 18 to 28 are in order. */
 uint64_t rove_validate_priors(uint64_t *words, size_t words_len);
+
+/* Whether the priors in words 18 to 28 estimate what the move in ROVE_NODE changes (ROVE_MOVE_...): 1 or 0 into ROVE_FIRST. */
+uint64_t rove_estimates(uint64_t *words, size_t words_len);
 
 /* Tip dating, the process in words 13 to 17; `minima` and `maxima` have one age for each tip. rove_initialize puts every tip at the middle of its ages
  * and scales the internal heights to what is left under the origin. rove_propose_age is TipAge: it moves one tip, and is given ROVE_GENERATOR and

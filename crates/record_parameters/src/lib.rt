@@ -223,7 +223,7 @@ pub fn put_process_scaled(words: &mut [u64], s: ProcessScaled) -> u64
 
 // ---- what a call writes that asks
 
-fn flag(holds: bool) -> u64
+pub fn flag(holds: bool) -> u64
     ensures { λ r. ⌜ r ≡ flagWord holds ⌝ }
 {
     if holds {

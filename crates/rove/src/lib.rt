@@ -116,7 +116,7 @@ pub extern "C" fn rove_validate(
     ensures { λ r. ⌜ written r (now (words .exit)) ≡ validateExported (now (pairs .entry)) (now (parents .entry)) (now (heights .entry)) (now (words .entry)) ⌝ }
 {
     if record::is_record(words) {
-        let verdict = tree::validate(pairs, parents, heights, record::root(words));
+        let verdict = quick::validate(pairs, parents, heights, record::root(words));
         return record::put_verdict(words, verdict);
     }
     NO_RECORD

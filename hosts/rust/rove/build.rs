@@ -4,7 +4,7 @@
 use std::env;
 use std::path::PathBuf;
 
-const ARCHIVES: [&str; 4] = ["rove", "rove_unvalidated", "rove_answer", "rove_parameters"];
+const ARCHIVES: [&str; 5] = ["rove", "rove_unvalidated", "rove_answer", "rove_parameters", "rove_values"];
 
 fn main() {
     println!("cargo:rerun-if-env-changed=ROVE_ARCHIVES");

@@ -17,6 +17,7 @@ mod ratio;
 mod replay;
 mod tally;
 mod trees;
+mod values;
 mod wrong;
 
 use oracle::Compared;

@@ -6,6 +6,7 @@ use crate::plain::{bits, random, same_float, same_floats};
 use crate::port::noisy;
 use crate::tally::Tally;
 use crate::trees::{Called, answered, called, stepped};
+use crate::values;
 use cases::Chance;
 use rove::{Record, Refusal, exports, word};
 use scripted::dating::{FossilizedBirthDeath, ProcessPriors};
@@ -38,14 +39,16 @@ const TRIALS: [(&str, Trial); 18] = [
     ("clade_age", dating::clade_age),
 ];
 
-/// So many calls.
+/// So many calls; beside each one of the trials of single values.
 pub fn compare(count: u64, seed: u64) -> Compared<Tally> {
     let mut chance = Chance::new(seed);
+    let mut other = Chance::new(!seed);
     let mut tally = Tally::new("parameters", count);
     while tally.total() < count {
         let (name, trial) = chance.pick(&TRIALS);
         let answer = trial(&mut chance).map_err(|fault| format!("{name} differs: {fault}"))?;
         tally.count(name, answer);
+        values::beside(&values::OF_PARAMETERS, &mut other, &mut tally)?;
     }
     Ok(tally)
 }
@@ -285,7 +288,7 @@ fn process(record: &Record) -> FossilizedBirthDeath {
     FossilizedBirthDeath { birth, death, fossil_sampling, present_sampling, origin }
 }
 
-fn priors(record: &Record) -> ProcessPriors {
+pub fn priors(record: &Record) -> ProcessPriors {
     ProcessPriors {
         birth_rate_mean: optional(record, 18),
         death_rate_mean: optional(record, 20),
@@ -296,7 +299,7 @@ fn priors(record: &Record) -> ProcessPriors {
 }
 
 /// The priors' words; mostly all are finite.
-fn set_priors(chance: &mut Chance, record: &mut Record) {
+pub fn set_priors(chance: &mut Chance, record: &mut Record) {
     let wrong = chance.once_in(4);
     let none = chance.once_in(16);
     for place in [18, 20, 22, 24, 27] {

@@ -4,6 +4,7 @@ use crate::oracle::{self, Compared, allowed};
 use crate::plain::{children, draws, mark, random, shown};
 use crate::port::noisy;
 use crate::tally::{Tally, refused};
+use crate::values;
 use crate::wrong::{judged, wrong_tree};
 use cases::Chance;
 use reference::random::Random;
@@ -20,14 +21,16 @@ const TRIALS: [(&str, Trial); 6] = [
     ("postorder", postorder),
 ];
 
-/// So many calls.
+/// So many calls; beside each one of the trials of single values.
 pub fn compare(count: u64, seed: u64) -> Compared<Tally> {
     let mut chance = Chance::new(seed);
+    let mut other = Chance::new(!seed);
     let mut tally = Tally::new("trees", count);
     while tally.total() < count {
         let (name, trial) = chance.pick(&TRIALS);
         let answer = trial(&mut chance).map_err(|fault| format!("{name} differs: {fault}"))?;
         tally.count(name, answer);
+        values::beside(&values::OF_TREES, &mut other, &mut tally)?;
     }
     Ok(tally)
 }
@@ -98,7 +101,8 @@ fn seed(chance: &mut Chance) -> Compared<&'static str> {
     }
 }
 
-fn state(chance: &mut Chance) -> [u64; 4] {
+/// A generator's words that are not all zero.
+pub fn state(chance: &mut Chance) -> [u64; 4] {
     loop {
         let state = chance.state();
         if state != [0; 4] {

@@ -43,10 +43,15 @@ const PARAMETERS: &[(&str, Call)] = calls! {
     rove_is_monophyletic(pairs, parents, heights, marks) rove_clade_age(pairs, parents, heights, marks)
 };
 
+const VALUES: &[(&str, Call)] = calls! {
+    rove_uniform() rove_coin() rove_scaler() rove_initial_tuning() rove_changes_fbd() rove_changes_tree()
+    rove_changes_topology() rove_estimates() rove_branch_length(parents, heights) rove_tree_length(parents, heights)
+};
+
 /// The tree of two tips, on which each call would do something.
 pub fn records() -> Result<String, String> {
     let mut count = 0;
-    for &(name, call) in [MOVES, UNVALIDATED, PARAMETERS].into_iter().flatten() {
+    for &(name, call) in [MOVES, UNVALIDATED, PARAMETERS, VALUES].into_iter().flatten() {
         for length in 0..WORDS {
             let mut slices = (
                 vec![65_535, 65_535, 65_535, 65_535, 0, 1],

@@ -1,6 +1,7 @@
-//! Document 01's example: RootScale on the tree 3=(0,1) at 1, 4=(3,2) at 2, once by a state file and once in memory.
+//! Document 01's example: RootScale on the tree 3=(0,1) at 1, 4=(3,2) at 2, once by a state file and once in memory; and
+//! the same factor by the functions that give single values.
 
-use rove::{Answer, Generator, Ratio, Tree};
+use rove::{Answer, Generator, Move, Ratio, Tree};
 use std::fmt::Write;
 
 const FILE: &str = "edition=1
@@ -25,13 +26,26 @@ fn main() {
     let text = String::from_utf8(rove::answer(FILE.as_bytes())).expect("text");
     assert_eq!(text, in_memory, "the state file's answer is that of the call");
     println!("The state file gives the same text.");
+    let mut generator = Generator::from_state([1, 2, 3, 4]);
+    let factor = rove::scaler(0.5, generator.uniform());
+    let by_hand = format!("ratio=power,{:016x},-1\n", factor.to_bits());
+    assert!(in_memory.contains(&by_hand), "the factor is that of the next uniform");
+    let tuning = Move::RootScale.initial_tuning().expect("a scale has one");
+    let length = example_tree().tree_length().expect("a length");
+    println!(
+        "Its factor is {factor}; a chain starts with the tuning {tuning}, and the tree has a length of {length}."
+    );
+}
+
+fn example_tree() -> Tree {
+    const NONE: u16 = 65_535;
+    let pairs = vec![NONE, NONE, NONE, NONE, NONE, NONE, 0, 1, 3, 2];
+    Tree::new(pairs, vec![0.0, 0.0, 0.0, 1.0, 2.0]).expect("a tree")
 }
 
 /// The move on a tree in memory, printed as the answer to the file is.
 fn moved_in_memory() -> String {
-    const NONE: u16 = 65_535;
-    let pairs = vec![NONE, NONE, NONE, NONE, NONE, NONE, 0, 1, 3, 2];
-    let mut tree = Tree::new(pairs, vec![0.0, 0.0, 0.0, 1.0, 2.0]).expect("a tree");
+    let mut tree = example_tree();
     let mut generator = Generator::from_state([1, 2, 3, 4]);
     let Answer::Moved(moved) = tree.root_scale(0.5, &mut generator, 9) else {
         panic!("the example moves");

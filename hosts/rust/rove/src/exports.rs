@@ -93,6 +93,20 @@ exports! {
     rove_clade_age(pairs: read u16, parents: read u16, heights: read f64, members: read u8);
 }
 
+// In librove_values.a.
+exports! {
+    rove_uniform();
+    rove_coin();
+    rove_scaler();
+    rove_initial_tuning();
+    rove_changes_fbd();
+    rove_changes_tree();
+    rove_changes_topology();
+    rove_estimates();
+    rove_branch_length(parents: read u16, heights: read f64);
+    rove_tree_length(parents: read u16, heights: read f64);
+}
+
 /// The generator of a seed, into words 0 to 3.
 pub fn rove_seed(seed: u64, words: &mut [u64]) -> u64 {
     unsafe extern "C" {

@@ -42,6 +42,18 @@ impl Generator {
         self.record.0[word::FIRST]
     }
 
+    /// The next draw, as a float on [0, 1).
+    pub fn uniform(&mut self) -> f64 {
+        exports::rove_uniform(&mut self.record.0);
+        self.record.float(word::FIRST)
+    }
+
+    /// The next draw, as a side, true being the first.
+    pub fn coin(&mut self) -> bool {
+        exports::rove_coin(&mut self.record.0);
+        self.record.0[word::FIRST] != 0
+    }
+
     /// A number below `n`.
     pub fn below(&mut self, n: u64, allowance: u64) -> Result<Drawn, Refusal> {
         let record = self.allowed(allowance);

@@ -3,6 +3,7 @@
 use crate::answer::{Proposal, Refusal};
 use crate::exports;
 use crate::generator::Generator;
+use crate::moves::Move;
 use crate::record::{Record, word};
 
 const AT: usize = word::PARAMETERS;
@@ -129,6 +130,14 @@ impl Priors {
         self.put(&mut record);
         let code = exports::rove_validate_priors(&mut record.0);
         record.verdict(code)
+    }
+
+    /// Whether the parameter that a move changes has a prior.
+    pub fn estimates(&self, kind: Move) -> bool {
+        let mut record = kind.record();
+        self.put(&mut record);
+        exports::rove_estimates(&mut record.0);
+        record.0[word::FIRST] != 0
     }
 }
 

@@ -7,7 +7,8 @@ use crate::parameters::{Ages, Density, Process};
 use crate::record::{Record, word};
 
 /// A tree with node heights. Node k's children are at 2k and 2k + 1 of the pairs; 65,535 is no node: a tip has it twice,
-/// and the root has it for its parent. Every call but those named `_unvalidated` looks whether this is a tree.
+/// and the root has it for its parent. Every call but those named `_unvalidated` and the two lengths looks whether this is
+/// a tree.
 #[derive(Clone, Debug, PartialEq)]
 pub struct Tree {
     pub pairs: Vec<u16>,
@@ -96,6 +97,23 @@ impl Tree {
             exports::rove_postorder(&self.pairs, &self.parents, &self.heights, &mut order, &mut record.0);
         record.verdict(code)?;
         Ok(order)
+    }
+
+    /// The length of the branch above a node; 0 above the root.
+    pub fn branch_length(&self, node: usize) -> Result<f64, Refusal> {
+        let mut record = self.record();
+        record.set_index(word::NODE, node);
+        let code = exports::rove_branch_length(&self.parents, &self.heights, &mut record.0);
+        record.verdict(code)?;
+        Ok(record.float(word::FIRST))
+    }
+
+    /// The lengths of all branches, added up in the order of the nodes.
+    pub fn tree_length(&self) -> Result<f64, Refusal> {
+        let mut record = self.record();
+        let code = exports::rove_tree_length(&self.parents, &self.heights, &mut record.0);
+        record.verdict(code)?;
+        Ok(record.float(word::FIRST))
     }
 
     moves! {

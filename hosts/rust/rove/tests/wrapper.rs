@@ -31,6 +31,21 @@ fn tree() {
 }
 
 #[test]
+fn lengths() {
+    let tree = tree_f();
+    let lengths = [0, 1, 2, 3, 4].map(|node| tree.branch_length(node));
+    assert_eq!(lengths, [Ok(1.0), Ok(1.0), Ok(2.0), Ok(1.0), Ok(0.0)]);
+    assert_eq!(tree.tree_length(), Ok(5.0));
+    assert_eq!(tree.branch_length(5), Err(Refusal::Parameter(0)));
+    let loose = Tree { parents: vec![3, 3, 4, 9, NONE], ..tree.clone() };
+    assert_eq!(loose.branch_length(2), Ok(2.0));
+    assert_eq!(loose.branch_length(3), Err(Refusal::Parameter(0)));
+    assert_eq!(loose.tree_length(), Err(Refusal::Parameter(0)));
+    let short = Tree { heights: vec![0.0; 4], ..tree };
+    assert_eq!([short.branch_length(0), short.tree_length()], [Err(Refusal::Size(5)); 2]);
+}
+
+#[test]
 fn sizes() {
     for nodes in [1, 2, 4, 4097] {
         let refused = Tree::new(vec![NONE; 2 * nodes], vec![0.0; nodes]);
@@ -54,6 +69,51 @@ fn generator() {
     assert_eq!(Generator::from_state([0; 4]).below(4, 1), Ok(Drawn { number: 0, draws: 1 }));
     assert_eq!(Generator::from_state([0; 4]).below(3, 65_535), Err(Refusal::Allowance(65_535)));
     assert_eq!(Generator::from_state([0; 4]).below(0, 1), Err(Refusal::Parameter(0)));
+}
+
+#[test]
+fn uniforms_and_coins() {
+    let mut generator = Generator::from_state([1, 2, 3, 4]);
+    assert_eq!(generator.uniform(), 5.0 / (1u64 << 41) as f64);
+    assert_eq!(generator.uniform(), (58_720_359u64 >> 11) as f64 / (1u64 << 53) as f64);
+    let mut drawn = Generator::from_state([1, 2, 3, 4]);
+    drawn.next_u64();
+    drawn.next_u64();
+    assert_eq!(generator, drawn);
+    let mut first = Generator::from_state([0, 0, 0, 1 << 40]);
+    assert!(first.clone().coin());
+    assert_eq!(first.next_u64(), 1 << 63);
+    assert!(!Generator::from_state([1, 2, 3, 4]).coin());
+}
+
+#[test]
+fn moves_by_their_numbers() {
+    for (number, kind) in Move::ALL.into_iter().enumerate() {
+        assert_eq!(kind as usize, number);
+        assert!(kind.changes_tree() || !kind.changes_topology());
+    }
+    assert_eq!(Move::SubtreeSlide.initial_tuning(), Some(1.0));
+    assert_eq!(Move::FbdBirthScale.initial_tuning(), Some(0.75));
+    assert_eq!(Move::ClockSigmaRates.initial_tuning(), Some(0.5));
+    assert_eq!(Move::WideExchange.initial_tuning(), None);
+    let changes = |kind: Move| [kind.changes_fbd(), kind.changes_tree(), kind.changes_topology()];
+    assert_eq!(changes(Move::FbdRhoLogit), [true, false, false]);
+    assert_eq!(changes(Move::TipAge), [false, true, false]);
+    assert_eq!(changes(Move::NarrowExchangeRates), [false, true, true]);
+    assert_eq!(changes(Move::MorphologyRateScale), [false, false, false]);
+    for number in [25, 65_535, 1 << 32, u64::MAX] {
+        let mut record = Record::empty();
+        record.set(word::NODE, number);
+        assert_eq!(exports::rove_changes_tree(&mut record.0), 2);
+        assert_eq!(record.refusal(), Refusal::Parameter(0));
+    }
+}
+
+#[test]
+fn factors() {
+    let tuning = Move::RootScale.initial_tuning().expect("a scale has one");
+    assert_eq!([scaler(tuning, 0.0), scaler(0.5, 1.0), scaler(0.5, 0.5)], [0.75, 2.0, 1.25]);
+    assert_eq!(scaler(0.0, 0.0).to_bits(), f64::NAN.to_bits());
 }
 
 #[test]
@@ -173,6 +233,9 @@ fn process() {
         Priors { present_sampling_beta: Some((1.0, 0.0)), ..priors }.validate(),
         Err(Refusal::Parameter(0))
     );
+    let estimated: Vec<Move> = Move::ALL.into_iter().filter(|&kind| priors.estimates(kind)).collect();
+    assert_eq!(estimated, [Move::FbdOriginScale]);
+    assert!(Priors { present_sampling_beta: Some((1.0, 2.0)), ..priors }.estimates(Move::FbdRhoLogit));
     let mut generator = Generator::from_state([1, 2, 3, 4]);
     let answer = fbd_scale(Field::Birth, &priors, &mut process, 2.0, 0.5, &mut generator, 9);
     assert_eq!(answer, Proposal::Declined(0));
