@@ -20,9 +20,8 @@
  *   no record (fewer than ROVE_WORDS words) nothing at all.
  * All other words stay as they came.
  *
- * The archives, for x86-64 Linux: librove_values.a has rove_uniform, rove_coin, rove_scaler, rove_branch_length, rove_tree_length, rove_estimates and
- * the table of moves; librove.a the other functions from rove_seed to rove_tree_scale, librove_unvalidated.a those whose names end in _unvalidated,
- * librove_answer.a rove_answer, and librove_parameters.a those on parameters. `rt staticlib` writes each. */
+ * The archive, for x86-64 Linux: librove.a has all of these functions, shows no other name and needs the C library alone. The script hosts/archive makes
+ * it, as target/archive/librove.a, the one file that a host links. */
 #ifndef ROVE_H
 #define ROVE_H
 
@@ -162,7 +161,9 @@ uint64_t rove_tree_scale(uint64_t *words, size_t words_len, const uint16_t *pair
                          double *heights, size_t heights_len);
 
 /* The same without validating the tree, for one that was accepted and has since been changed by these calls alone; parameters and allowance are still
- * checked. On an accepted tree each does exactly what its namesake does. On any other slices it ends and stays within them, and no more is promised. */
+ * checked. After TreeScale, checked or not, on a tree with a tip whose height is not zero, a checked call or rove_validate comes next: a tip may have come
+ * to stand above its parent, and such a tree is not accepted. On an accepted tree each does exactly what its namesake does. On any other slices it ends
+ * and stays within them, and no more is promised. */
 uint64_t rove_node_height_unvalidated(uint64_t *words, size_t words_len, const uint16_t *pairs, size_t pairs_len, const uint16_t *parents,
                                       size_t parents_len, double *heights, size_t heights_len);
 uint64_t rove_slide_start_unvalidated(uint64_t *words, size_t words_len, const uint16_t *pairs, size_t pairs_len, const uint16_t *parents,

@@ -1,25 +1,21 @@
-//! Links the archives that `rt staticlib` writes: from target/staticlib of the repository, or from the folder that
-//! ROVE_ARCHIVES names.
+//! Links the one archive, librove.a, which the script hosts/archive makes: from target/archive of the repository, or from the
+//! folder that ROVE_ARCHIVE names by its whole path.
 
 use std::env;
 use std::path::PathBuf;
 
-const ARCHIVES: [&str; 5] = ["rove", "rove_unvalidated", "rove_answer", "rove_parameters", "rove_values"];
-
 fn main() {
-    println!("cargo:rerun-if-env-changed=ROVE_ARCHIVES");
-    let folder = match env::var_os("ROVE_ARCHIVES") {
+    println!("cargo:rerun-if-env-changed=ROVE_ARCHIVE");
+    let folder = match env::var_os("ROVE_ARCHIVE") {
         Some(folder) => PathBuf::from(folder),
         None => PathBuf::from(env::var_os("CARGO_MANIFEST_DIR").expect("cargo sets it"))
-            .join("../../../target/staticlib"),
+            .join("../../../target/archive"),
     };
-    println!("cargo:rustc-link-search=native={}", folder.display());
-    for archive in ARCHIVES {
-        let path = folder.join(format!("lib{archive}.a"));
-        println!("cargo:rerun-if-changed={}", path.display());
-        println!("cargo:rustc-link-lib=static={archive}");
-        if !path.exists() {
-            println!("cargo::error={} is not there; `rt staticlib {archive}` writes it", path.display());
-        }
+    let archive = folder.join("librove.a");
+    println!("cargo:rerun-if-changed={}", archive.display());
+    if !archive.exists() {
+        println!("cargo::error={} is not there; the script hosts/archive makes it", archive.display());
     }
+    println!("cargo:rustc-link-search=native={}", folder.display());
+    println!("cargo:rustc-link-lib=static=rove");
 }

@@ -1,6 +1,6 @@
 //! The exported functions, each as a safe function over slices. They have no precondition: each ends on any slices, and a
 //! record of fewer than 32 words is answered with 3. What is believed here is that the declarations below are those of the
-//! archives, where a slice is a pointer and a length.
+//! archive, where a slice is a pointer and a length.
 
 macro_rules! slice {
     (read $t:ty) => {
@@ -42,7 +42,7 @@ macro_rules! exports {
     };
 }
 
-// In librove.a.
+// Of the crate rove.
 exports! {
     rove_next_u64();
     rove_below();
@@ -59,7 +59,7 @@ exports! {
     rove_tree_scale(pairs: read u16, parents: read u16, heights: lend f64);
 }
 
-// In librove_unvalidated.a.
+// Of the crate rove_unvalidated.
 exports! {
     rove_node_height_unvalidated(pairs: read u16, parents: read u16, heights: lend f64);
     rove_slide_start_unvalidated(pairs: read u16, parents: read u16, heights: read f64);
@@ -71,7 +71,7 @@ exports! {
     rove_tree_scale_unvalidated(pairs: read u16, parents: read u16, heights: lend f64);
 }
 
-// In librove_parameters.a.
+// Of the crate rove_parameters.
 exports! {
     rove_scale();
     rove_clock_rate_scale();

@@ -1,4 +1,4 @@
-//! rove's moves, proved: the functions that the archives export, with Rust types. `exports` has them as they are, over
+//! rove's moves, proved: the functions that the archive exports, with Rust types. `exports` has them as they are, over
 //! slices and a record of words; the rest fills the record and reads it.
 
 mod answer;

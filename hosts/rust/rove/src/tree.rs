@@ -35,7 +35,8 @@ impl Started {
     }
 }
 
-/// The moves: each with the function that checks the tree first, and the one that does not.
+/// The moves: each with the function that checks the tree first, and the one that does not. Where a tip's height is not
+/// zero, a checked call or `validate` comes between TreeScale and a call that does not check.
 macro_rules! moves {
     ($($(#[$about:meta])* $name:ident, $unvalidated:ident: $export:ident, $bare:ident
         [$($pairs:tt)+] [$($heights:tt)+] ($($parameter:ident: $t:ty => $set:ident $place:ident),*);)*) => {
@@ -51,7 +52,9 @@ macro_rules! moves {
             }
 
             /// The same without a look at the tree: for one that was accepted and has only been changed by these
-            /// calls. On any other it is safe and ends, and nothing else is promised.
+            /// calls. After `tree_scale` or `tree_scale_unvalidated` on a tree with a tip whose height is not zero, a
+            /// checked call or `validate` comes first: a tip may have come to stand above its parent, and such a tree
+            /// is not accepted. On any other tree this is safe and ends, and nothing else is promised.
             #[inline]
             pub fn $unvalidated(&mut self, $($parameter: $t,)* generator: &mut Generator, allowance: u64) -> Answer {
                 let record = self.drawing(generator, allowance);
@@ -133,7 +136,8 @@ impl Tree {
         /// The root's height is scaled.
         root_scale, root_scale_unvalidated: rove_root_scale, rove_root_scale_unvalidated [&] [&mut]
             (tuning: f64 => set_float TUNING);
-        /// All internal heights are scaled. A dated tip may end above its parent; then the next call is refused.
+        /// All internal heights are scaled. A tip whose height is not zero may come to stand above its parent, and such
+        /// a tree is not accepted: a checked call or `validate` comes next, which refuses it.
         tree_scale, tree_scale_unvalidated: rove_tree_scale, rove_tree_scale_unvalidated [&] [&mut]
             (tuning: f64 => set_float TUNING);
     }
