@@ -161,9 +161,11 @@ uint64_t rove_tree_scale(uint64_t *words, size_t words_len, const uint16_t *pair
                          double *heights, size_t heights_len);
 
 /* The same without validating the tree, for one that was accepted and has since been changed by these calls alone; parameters and allowance are still
- * checked. After TreeScale, checked or not, on a tree with a tip whose height is not zero, a checked call or rove_validate comes next: a tip may have come
- * to stand above its parent, and such a tree is not accepted. On an accepted tree each does exactly what its namesake does. On any other slices it ends
- * and stays within them, and no more is promised. */
+ * checked. On an accepted tree each does exactly what its namesake does, and what it leaves is accepted again, however many calls are made. The exception is
+ * TreeScale, checked or not, on a tree with a tip whose height is not zero: a tip may have come to stand above its parent, such a tree is not accepted, and
+ * a checked call or rove_validate comes next. On any other slices a call ends and stays within them; parameters and allowance are refused as ever, a refused
+ * or declined call leaves the slices as they came and a refused one the generator too, and the generator is stepped as often as ROVE_DRAWS says. Which
+ * answer is given there is undecided. */
 uint64_t rove_node_height_unvalidated(uint64_t *words, size_t words_len, const uint16_t *pairs, size_t pairs_len, const uint16_t *parents,
                                       size_t parents_len, double *heights, size_t heights_len);
 uint64_t rove_slide_start_unvalidated(uint64_t *words, size_t words_len, const uint16_t *pairs, size_t pairs_len, const uint16_t *parents,

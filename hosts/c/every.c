@@ -40,15 +40,21 @@ static void expect(int holds, const char *what)
 #define CALL_ON(name, ...) \
     static uint64_t call_##name(struct host *h) { return name(h->words, h->length, __VA_ARGS__); }
 #define TREE h->pairs, 2 * NODES, h->parents, NODES, h->heights, NODES
+#define PLACED h->parents, NODES, h->heights, NODES
 #define AGES h->minima, TIPS, h->maxima, TIPS
 
 CALL_ON(rove_seed, 1234567)
 CALL(rove_next_u64)
 CALL(rove_below)
+CALL(rove_uniform)
+CALL(rove_coin)
+CALL(rove_scaler)
 
 CALL_ON(rove_new, h->pairs, 2 * NODES, h->heights, NODES, h->parents, NODES)
 CALL_ON(rove_validate, TREE)
 CALL_ON(rove_postorder, TREE, h->order, NODES)
+CALL_ON(rove_branch_length, PLACED)
+CALL_ON(rove_tree_length, PLACED)
 
 CALL_ON(rove_node_height, TREE)
 CALL_ON(rove_slide_start, TREE)
@@ -68,6 +74,11 @@ CALL_ON(rove_wilson_balding_unvalidated, TREE)
 CALL_ON(rove_root_scale_unvalidated, TREE)
 CALL_ON(rove_tree_scale_unvalidated, TREE)
 
+CALL(rove_initial_tuning)
+CALL(rove_changes_fbd)
+CALL(rove_changes_tree)
+CALL(rove_changes_topology)
+
 CALL(rove_scale)
 CALL(rove_clock_rate_scale)
 CALL(rove_birth_difference_scale)
@@ -81,6 +92,7 @@ CALL_ON(rove_set_sigma, h->rates, RATES)
 CALL_ON(rove_set_rate, h->rates, RATES)
 CALL(rove_fbd_scale)
 CALL(rove_validate_priors)
+CALL(rove_estimates)
 CALL_ON(rove_initialize, TREE, AGES)
 CALL_ON(rove_propose_age, TREE, AGES)
 CALL_ON(rove_yule_log_density, TREE)
@@ -258,6 +270,33 @@ static void below(call make, struct host *h)
     refused(make, h, ROVE_REFUSAL_PARAMETER, 0);
 }
 
+static void draw_uniform(call make, struct host *h)
+{
+    for (int k = 0; k < 6; k++) {
+        done(make, h, 1);
+        expect(is_float(h, ROVE_FIRST, uniform(draw[k])), "the uniform");
+    }
+}
+
+/* The top bit of a draw is the first side. */
+static void coin(call make, struct host *h)
+{
+    for (int k = 0; k < 6; k++) {
+        done(make, h, 1);
+        expect(h->words[ROVE_FIRST] == draw[k] >> 63, "the side");
+    }
+}
+
+static void scaler(call make, struct host *h)
+{
+    put_float(h, 13, uniform(draw[0]));
+    done(make, h, 0);
+    expect(is_float(h, ROVE_FIRST, factor()), "the factor");
+    put_float(h, 13, 1.0);
+    done(make, h, 0);
+    expect(is_float(h, ROVE_FIRST, 2.0), "the factor of the uniform 1");
+}
+
 /* ---- the tree */
 
 static void new_tree(call make, struct host *h)
@@ -287,6 +326,26 @@ static void postorder(call make, struct host *h)
     expect(memcmp(h->order, order, sizeof order) == 0, "the order");
     h->heights[0] = -1.0;
     refused(make, h, ROVE_REFUSAL_HEIGHT, 0);
+}
+
+static void branch_length(call make, struct host *h)
+{
+    h->words[ROVE_NODE] = 2;
+    done(make, h, 0);
+    expect(is_float(h, ROVE_FIRST, 2.0), "the branch above 2");
+    h->words[ROVE_NODE] = 4;
+    done(make, h, 0);
+    expect(is_float(h, ROVE_FIRST, 0.0), "the root's branch");
+    h->words[ROVE_NODE] = NODES;
+    refused(make, h, ROVE_REFUSAL_PARAMETER, 0);
+}
+
+static void tree_length(call make, struct host *h)
+{
+    done(make, h, 0);
+    expect(is_float(h, ROVE_FIRST, 5.0), "the length");
+    h->parents[0] = 7;
+    refused(make, h, ROVE_REFUSAL_PARAMETER, 0);
 }
 
 /* ---- the moves, checked and unvalidated */
@@ -558,6 +617,64 @@ static void validate_priors(call make, struct host *h)
     done(make, h, 0);
 }
 
+/* ---- the table of moves */
+
+static void initial_tuning(call make, struct host *h)
+{
+    h->words[ROVE_NODE] = ROVE_MOVE_SUBTREE_SLIDE;
+    done(make, h, 0);
+    expect(is_float(h, ROVE_FIRST, 1.0), "a slide's");
+    h->words[ROVE_NODE] = ROVE_MOVE_BRANCH_RATE_SCALE;
+    done(make, h, 0);
+    expect(is_float(h, ROVE_FIRST, 0.5), "a rate's");
+    h->words[ROVE_NODE] = ROVE_MOVE_NODE_HEIGHT;
+    declined(make, h, 0);
+    h->words[ROVE_NODE] = ROVE_MOVE_MORPHOLOGY_RATE_SCALE + 1;
+    refused(make, h, ROVE_REFUSAL_PARAMETER, 0);
+}
+
+/* The answers for a move of the process, one that keeps the tree's shape, and one that changes it. */
+static void changes(call make, struct host *h, uint64_t process, uint64_t height, uint64_t shape)
+{
+    h->words[ROVE_NODE] = ROVE_MOVE_FBD_ORIGIN_SCALE;
+    done(make, h, 0);
+    expect(h->words[ROVE_FIRST] == process, "FbdOriginScale");
+    h->words[ROVE_NODE] = ROVE_MOVE_TREE_SCALE;
+    done(make, h, 0);
+    expect(h->words[ROVE_FIRST] == height, "TreeScale");
+    h->words[ROVE_NODE] = ROVE_MOVE_NARROW_EXCHANGE_RATES;
+    done(make, h, 0);
+    expect(h->words[ROVE_FIRST] == shape, "NarrowExchangeRates");
+    h->words[ROVE_NODE] = UINT64_MAX;
+    refused(make, h, ROVE_REFUSAL_PARAMETER, 0);
+}
+
+static void changes_fbd(call make, struct host *h)
+{
+    changes(make, h, 1, 0, 0);
+}
+
+static void changes_tree(call make, struct host *h)
+{
+    changes(make, h, 0, 1, 1);
+}
+
+static void changes_topology(call make, struct host *h)
+{
+    changes(make, h, 0, 0, 1);
+}
+
+static void estimates(call make, struct host *h)
+{
+    h->words[ROVE_PRIOR_DEATH_MEAN] = 1;
+    h->words[ROVE_NODE] = ROVE_MOVE_FBD_DEATH_SCALE;
+    done(make, h, 0);
+    expect(h->words[ROVE_FIRST] == 1, "a death rate with a prior");
+    h->words[ROVE_NODE] = ROVE_MOVE_FBD_BIRTH_SCALE;
+    done(make, h, 0);
+    expect(h->words[ROVE_FIRST] == 0, "a birth rate without one");
+}
+
 /* ---- tip dating, densities and clades */
 
 /* Tip 0 has an age from 1 to 3, of which the middle is 2. What is above it is 0.8 of the way to the origin, four times as long as the tree. */
@@ -662,9 +779,14 @@ static const struct {
     ROW(rove_seed, seed),
     ROW(rove_next_u64, next_u64),
     ROW(rove_below, below),
+    ROW(rove_uniform, draw_uniform),
+    ROW(rove_coin, coin),
+    ROW(rove_scaler, scaler),
     ROW(rove_new, new_tree),
     ROW(rove_validate, validate),
     ROW(rove_postorder, postorder),
+    ROW(rove_branch_length, branch_length),
+    ROW(rove_tree_length, tree_length),
     ROW(rove_node_height, node_height),
     ROW(rove_slide_start, slide_start),
     ROW(rove_subtree_slide, subtree_slide),
@@ -681,6 +803,10 @@ static const struct {
     ROW(rove_wilson_balding_unvalidated, wilson_balding),
     ROW(rove_root_scale_unvalidated, root_scale),
     ROW(rove_tree_scale_unvalidated, tree_scale),
+    ROW(rove_initial_tuning, initial_tuning),
+    ROW(rove_changes_fbd, changes_fbd),
+    ROW(rove_changes_tree, changes_tree),
+    ROW(rove_changes_topology, changes_topology),
     ROW(rove_scale, scale),
     ROW(rove_clock_rate_scale, clock_rate_scale),
     ROW(rove_birth_difference_scale, birth_difference_scale),
@@ -694,6 +820,7 @@ static const struct {
     ROW(rove_set_rate, set_rate),
     ROW(rove_fbd_scale, fbd_scale),
     ROW(rove_validate_priors, validate_priors),
+    ROW(rove_estimates, estimates),
     ROW(rove_initialize, initialize),
     ROW(rove_propose_age, propose_age),
     ROW(rove_yule_log_density, yule_log_density),
