@@ -187,7 +187,7 @@ admitted-settled (treeScale f) t u r a l x s =
     subst (λ (k : ℕ). TipsUnder k u) (sym (tree-scales-nodes (accepted-valid t a) l x)) (tree-scales-present (accepted-valid t a) l x s)
 
 -- of a move that is not TreeScale nothing is asked
-steady-still : (m : Move) (t : Tree) → T (noTreeScale m) → Steady m t
+pub steady-still : (m : Move) (t : Tree) → T (noTreeScale m) → Steady m t
 steady-still nodeHeight t h = tt
 steady-still (subtreeSlide i step) t h = tt
 steady-still narrowExchange t h = tt
@@ -197,7 +197,7 @@ steady-still (rootScale s) t h = tt
 steady-still (treeScale s) t h = absurd h
 
 -- and of any move no more than that every tip is at the present
-steady-present : (m : Move) (t : Tree) → Present (nodesOf (t .pairs)) t → Steady m t
+pub steady-present : (m : Move) (t : Tree) → Present (nodesOf (t .pairs)) t → Steady m t
 steady-present nodeHeight t h = tt
 steady-present (subtreeSlide i step) t h = tt
 steady-present narrowExchange t h = tt

@@ -18,7 +18,7 @@ use Rattle.rules.specs.Moves as Reversibles
 use Rattle.rules.specs.Moves.{Reversible, Choice, Makes}
 use Rattle.reversal.specs.Reversed.{Reversed}
 use Rattle.calls.specs.Call.{Called}
-use Rattle.moves.specs.Moves.{Move, nodeHeight, subtreeSlide, narrowExchange, wideExchange, wilsonBalding, rootScale, treeScale, moveCall}
+use Rattle.moves.specs.Moves.{Move, nodeHeight, subtreeSlide, narrowExchange, wideExchange, wilsonBalding, rootScale, treeScale, moveCall, UnvalidatedCall}
 
 -- the tree that a call leaves, with a root
 abbrev pub treeAfter : Called → ℕ → Tree
@@ -114,3 +114,9 @@ noTreeScale (treeScale s) = false
 unfoldable pub withoutTreeScale : List Asked → Bool
 withoutTreeScale [] = true
 withoutTreeScale (c ∷ cs) = noTreeScale (c .move) && withoutTreeScale cs
+
+-- unvalidated calls, each made on what the one before it left, lead from t to u; all that is known of each is its contract
+pub data Chain : List Asked → Tree → Tree → Type 0 where
+  ends-here : (t : Tree) → Chain [] t t
+  then-call : (a : Asked) (as : List Asked) (t u : Tree) (c : Called) → UnvalidatedCall (a .move) t (a .random) (a .allowance) c → Chain as (treeLeft c (t .root)) u
+      → Chain (a ∷ as) t u

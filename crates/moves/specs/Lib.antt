@@ -10,3 +10,4 @@ pub mod ScaleLaws
 pub mod StartLaws
 pub mod Rows
 pub mod Demands
+pub mod ChainLaws

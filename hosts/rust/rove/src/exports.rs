@@ -93,7 +93,7 @@ exports! {
     rove_clade_age(pairs: read u16, parents: read u16, heights: read f64, members: read u8);
 }
 
-// Single values.
+// Of the crate rove_values.
 exports! {
     rove_uniform();
     rove_coin();
