@@ -118,5 +118,5 @@ withoutTreeScale (c ∷ cs) = noTreeScale (c .move) && withoutTreeScale cs
 -- unvalidated calls, each made on what the one before it left, lead from t to u; all that is known of each is its contract
 pub data Chain : List Asked → Tree → Tree → Type 0 where
   ends-here : (t : Tree) → Chain [] t t
-  then-call : (a : Asked) (as : List Asked) (t u : Tree) (c : Called) → UnvalidatedCall (a .move) t (a .random) (a .allowance) c → Chain as (treeLeft c (t .root)) u
-      → Chain (a ∷ as) t u
+  then-call : (a : Asked) (later : List Asked) (t u : Tree) (c : Called) → UnvalidatedCall (a .move) t (a .random) (a .allowance) c → Chain later (treeLeft c (t .root)) u
+      → Chain (a ∷ later) t u

@@ -11,7 +11,7 @@ use Rattle.random.specs.declared.Random.{Random}
 use Rattle.random.specs.Generator.{fromState}
 use Rattle.tree.specs.declared.Rooted.{Rooted}
 use Rattle.tree.specs.declared.Rooted.the-variants as Roots
-use Rattle.tree.specs.Tree.{Tree, nodesOf}
+use Rattle.tree.specs.Tree.{nodesOf}
 use Rattle.tree.specs.New.{New, refused, made, newTree, NewCall, newAnswered, newCall}
 use Rattle.tree.specs.Given.{treeOf, newGiven}
 use Rattle.accepted.specs.AcceptedLaws.{new-given}

@@ -1,6 +1,6 @@
 -- The ways through the exported functions: past the test of the record (`recordLaws`), the draws and the factor (`drawLaws`), the table of moves (`moveLaws`)
 -- and the lengths (`lengthLaws`). Their words are `words`, b is what the test said, r is the code returned, and after the words at the end. Assumes nothing.
-use mathlib.Core.Path.{_≡_, ap, _∙_}
+use mathlib.Core.Path.{_≡_, _∙_}
 use mathlib.Core.Bool.{Bool, true, false}
 use mathlib.Core.List.{List}
 use Prim.Native.Nat.{ℕ, _<_, _≤_}

@@ -2,14 +2,14 @@
 -- end, for any form of line; then for pairs and for heights. Assumes nothing.
 use mathlib.Core.Path.{_≡_, refl, sym, ap, _∙_, subst}
 use mathlib.Core.List.{List, [], _∷_, _++_, append-assoc, append-nil, map}
-use Prim.Native.Nat.{ℕ, zero, suc, _+_, _-_, _*_, _≤_, _<_}
+use Prim.Native.Nat.{ℕ, suc, _+_, _-_, _*_, _≤_, _<_}
 use native.Mathlib.Nat.{add-zero, sub-zero, mul-zero}
 use native.Mathlib.Numerals.{add-one}
 use native.Mathlib.Omega.{arith}
-use lib.ListN.{length, set, take, drop, replicate, length-set, length-append, length-drop, length-map, length-replicate, replicate-append-replicate, take-append-drop}
+use lib.ListN.{length, set, take, drop, replicate, length-set, length-append, length-map, length-replicate, replicate-append-replicate, take-append-drop}
 use lib.Seq.{drop-cons, drop-drop, take-at, drop-at, set-at, set-out, length-take-le}
 use lib.Ieee.{Float, binary64, ofBits}
-use Rattle.text.specs.Rules.{Rule, Parsed, malformed, parsed}
+use Rattle.text.specs.Rules.{Rule, malformed, parsed}
 use Rattle.text.specs.Places.{numbered}
 use Rattle.text.specs.declared.Number.{Number}
 use Rattle.text.specs.declared.Number.the-variants.{Value, Malformed}
@@ -18,11 +18,11 @@ use Rattle.forms.specs.Forms.{pairLine, heightLine}
 use Rattle.forms.specs.Given.{paired}
 use Rattle.forms.specs.declared.Pair.{Pair}
 use Rattle.forms.specs.declared.Pair.the-variants as Pairs
-use Rattle.statefile.specs.Lines.{Found, wrong, found, each}
+use Rattle.statefile.specs.Lines.{wrong, found, each}
 use Rattle.statefile.specs.StateFile.{slots, withTips, real, nodesFor}
 use Rattle.statefile.specs.SlotLaws.{slots-long}
 use Rattle.statefile.specs.EachLaws.{after, after-none, after-after, each-none, each-wrong, each-more}
-use Rattle.statefile.specs.Given.{Stored, stored, pairsStored, heightsStored, Marked, Planted, planted}
+use Rattle.statefile.specs.Given.{Stored, pairsStored, heightsStored, Marked, planted}
 use Rattle.statefile.specs.declared.LinesRead.{LinesRead}
 use Rattle.statefile.specs.declared.LinesRead.the-variants.{Upto, Wrong}
 

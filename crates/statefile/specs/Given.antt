@@ -1,14 +1,14 @@
 -- What the readers of the state file give and ask: their answers as the definitions have them, and what the lent slices hold. Definitions only.
 -- Assumes nothing.
 use mathlib.Core.Path.{_≡_}
-use mathlib.Core.List.{List, [], _∷_, _++_, map}
+use mathlib.Core.List.{List, _++_, map}
 use Prim.Native.Nat.{ℕ, _+_, _-_, _*_, _^_, _≤_, _<_}
 use lib.ListN.{length, take, drop, replicate}
 use lib.Ieee.{Float}
 use Rattle.tree.specs.Tree.{noNode}
 use Rattle.forms.specs.Forms.{pairLine, heightLine}
 use Rattle.statefile.specs.Lines.{Found, wrong, found, each}
-use Rattle.statefile.specs.StateFile.{Nodes, Reading, faulty, read, slots, withTips, real, nodesFor, head, tree, stateOf, stateFile}
+use Rattle.statefile.specs.StateFile.{Nodes, faulty, read, slots, withTips, real, nodesFor, head, tree, stateOf, stateFile}
 use Rattle.statefile.specs.declared.Supplied.{Supplied}
 use Rattle.statefile.specs.declared.Asked.{Asked}
 use Rattle.statefile.specs.declared.Head.{Head}

@@ -1,7 +1,7 @@
 // The state file, read into lent slices. specs/StateFile.antt says what a file holds and how its lines are counted. Assumes nothing.
 ghost use mathlib.Core.Path.{_≡_};
 ghost use Prim.Native.Nat.{_+_, _-_, _^_, _<_};
-ghost use lib.ListN.{length, set, drop};
+ghost use lib.ListN.{set, drop};
 ghost use Rattle.text.specs.Places.{DigitValues};
 ghost use Rattle.statefile.specs.StateFile.{nodesFor, supplied, asked, head};
 ghost use Rattle.statefile.specs.Given.{suppliedGiven, askedGiven, headGiven, Counts, Marked, pairsStored, planted, heightsStored, grown, fileGiven};
