@@ -104,9 +104,6 @@ module _ {P Q : Type 0} (put : P → Q) (limits : Bool) (program : Draw (Change 
 -- ---- draws
 
 module _ {P : Type 0} (limits : Bool) (program : Draw (Change P)) (v : P) (g : Random) where
-  abbrev call : ℕ → Proposed P
-  call a = valueCall limits program v g a
-
   abbrev ending : ℕ → Ending (Change P)
   ending a = runCall (limited limits a) (replying program) g a
 

@@ -58,9 +58,6 @@ module _ (s u : Supply) (h : Stepped s u) where
 -- ---- how a turn ends
 
 module _ (pairs parents : List ℕ) (heights : List Float) (root : ℕ) (s u : Supply) where
-  abbrev lent : Tree
-  lent = treeOf pairs parents heights root
-
   pub mild-moved : (top : ℕ) (r : Ratio) (ps qs : List ℕ) (hs : List Float) → Stepped s u → length ps ≡ length pairs → length qs ≡ length parents → length hs ≡ length heights
       → Mild (treeOf pairs parents heights root) s (afterOn (Turns.Moved top r) u (treeOf ps qs hs top))
   mild-moved top r ps qs hs h p q d = moves top r u (treeOf ps qs hs top) h (record { pairs = p; parents = q; heights = d })

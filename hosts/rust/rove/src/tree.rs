@@ -54,7 +54,8 @@ macro_rules! moves {
             /// The same without a look at the tree: for one that was accepted and has only been changed by these
             /// calls. After `tree_scale` or `tree_scale_unvalidated` on a tree with a tip whose height is not zero, a
             /// checked call or `validate` comes first: a tip may have come to stand above its parent, and such a tree
-            /// is not accepted. On any other tree this is safe and ends, and nothing else is promised.
+            /// is not accepted. On any other tree this is safe and ends, leaves the tree as it was unless it moved, and counts
+            /// its draws truly; which answer it gives is undecided.
             #[inline]
             pub fn $unvalidated(&mut self, $($parameter: $t,)* generator: &mut Generator, allowance: u64) -> Answer {
                 let record = self.drawing(generator, allowance);
