@@ -3,9 +3,22 @@
 use crate::exports;
 use crate::record::{Record, word};
 
-/// rove's moves, ported or not, in the Rust's order, by which they have their numbers.
-#[derive(Clone, Copy, Debug, PartialEq, Eq, Hash)]
-pub enum Move {
+/// The enum of the moves and the list of all, in one order.
+macro_rules! moves {
+    ($($name:ident),*) => {
+        /// rove's moves, ported or not, in the Rust's order, by which they have their numbers.
+        #[derive(Clone, Copy, Debug, PartialEq, Eq, Hash)]
+        pub enum Move {
+            $($name),*
+        }
+
+        impl Move {
+            pub const ALL: [Self; 25] = [$(Self::$name),*];
+        }
+    };
+}
+
+moves! {
     FbdBirthScale,
     FbdDeathScale,
     FbdSamplingScale,
@@ -30,38 +43,10 @@ pub enum Move {
     ClockSigmaRates,
     NarrowExchangeRates,
     BirthRateScale,
-    MorphologyRateScale,
+    MorphologyRateScale
 }
 
 impl Move {
-    pub const ALL: [Self; 25] = [
-        Self::FbdBirthScale,
-        Self::FbdDeathScale,
-        Self::FbdSamplingScale,
-        Self::FbdRhoLogit,
-        Self::FbdOriginScale,
-        Self::TipAge,
-        Self::ClockRateScale,
-        Self::NodeHeight,
-        Self::SubtreeSlide,
-        Self::NarrowExchange,
-        Self::WideExchange,
-        Self::WilsonBalding,
-        Self::RootScale,
-        Self::TreeScale,
-        Self::BirthDifferenceScale,
-        Self::RelativeDeathScale,
-        Self::GammaShapeScale,
-        Self::ClockSigmaScale,
-        Self::BranchRateScale,
-        Self::NodeTimeRates,
-        Self::RootTimeRates,
-        Self::ClockSigmaRates,
-        Self::NarrowExchangeRates,
-        Self::BirthRateScale,
-        Self::MorphologyRateScale,
-    ];
-
     /// The slide's size or the scale's tuning to start with, for the moves that have one.
     pub fn initial_tuning(self) -> Option<f64> {
         let mut record = self.record();
