@@ -1,5 +1,5 @@
 -- Laws of writing. In order: one byte, inside the slice and past its end (`byte-inside`, `byte-past`); a text after a text is the two as one
--- (`write-append`, `write-then`, `byte-then`); the slice keeps its length (`write-length`); a text that fits stands at its place, the rest being as it was (`write-fits`). Assumes nothing.
+-- (`write-append`, `write-then`, `byte-then`); the slice keeps its length (`write-length`); a text that fits stands at its place, the rest being as it was (`write-fits`, and at the slice's start `write-whole`). Assumes nothing.
 use mathlib.Core.Path.{_≡_, refl, sym, ap, _∙_}
 use mathlib.Core.Bool.{Bool, true, false, cond}
 use mathlib.Core.List.{List, [], _∷_, _++_}
@@ -62,3 +62,7 @@ write-sets d at (b ∷ t) h =
 pub write-fits : (d : List ℕ) (at : ℕ) (t : List ℕ) → at + length t ≤ length d
     → write (written d at) t ≡ written (take at d ++ t ++ drop (at + length t) d) (at + length t)
 write-fits d at t h = rw (write-sets d at t h, sets-eq t d at h)
+
+-- from the start of a slice
+pub write-whole : (d t o : List ℕ) (r : ℕ) → length t ≤ length d → written o r ≡ write (written d 0) t → written o r ≡ written (t ++ drop (length t) d) (length t)
+write-whole d t o r h e = let z : 0 + length t ≡ length t = omega arith in e ∙ rw (← z) (write-fits d 0 t (omega arith))

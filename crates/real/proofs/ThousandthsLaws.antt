@@ -17,24 +17,10 @@ use Rattle.real.specs.Ages.{ageOf}
 use Rattle.real.specs.OrderLaws.{nlt→le}
 use Rattle.real.specs.FieldLaws.{field, digits, age-small, age-large, age-units}
 use Rattle.real.specs.AgeLaws.{Age, lt-is}
+use Rattle.real.specs.PrintedLaws.{printable-finite, zero-finite, limit-finite}
 use Rattle.real.specs.declared.Printed.the-variants.{Thousandths, Outside}
 
 -- ---- an age that is printed
-
-printable-finite : (x : Float) → T (not (lt x zero)) → T (lt x printLimit) → T (finite x)
-unfolding lt ofBits
-printable-finite nan h k = absurd k
-printable-finite (inf true) h k = absurd h
-printable-finite (inf false) h k = absurd k
-printable-finite (fin s m e) h k = tt
-
-zero-finite : T (finite zero)
-unfolding ofBits
-zero-finite = tt
-
-limit-finite : T (finite printLimit)
-unfolding ofBits
-limit-finite = tt
 
 limit-sign : T (not (lt printLimit zero))
 unfolding lt ofBits

@@ -1,5 +1,5 @@
 -- The definitions that the contracts of real cite, and the laws of the order of floats, of ages, of products, of arithmetic, which keeps the
--- order, and of floats that are not negative but may have a minus sign.
+-- order, of floats that are not negative but may have a minus sign, and of printed ages.
 pub mod Real
 pub mod Printed
 pub mod Ages
@@ -10,3 +10,4 @@ pub mod AgeLaws
 pub mod ProductLaws
 pub mod MonotoneLaws
 pub mod SignedLaws
+pub mod PrintedLaws

@@ -16,7 +16,7 @@ use Rattle.random.specs.declared.Random.{Random}
 use Rattle.random.specs.Generator.{stateOf}
 use Rattle.text.specs.Text.{bytes, decimalText}
 use Rattle.print.specs.Writing.{written, write}
-use Rattle.print.specs.WritingLaws.{write-fits}
+use Rattle.print.specs.WritingLaws.{write-whole}
 use Rattle.notation.specs.Notation.{line, comma, stateText, ratioText, pairsText, heightsText}
 use Rattle.notation.specs.LengthLaws.{length-comma, length-line, length-state, length-heights}
 use Rattle.report.specs.Report.{drawnText, oddsText, treeText, refusedText, answerText, delivery, delivered}
@@ -59,6 +59,5 @@ module _ (out text : List ℕ) (n : ℕ) (l : n ≡ length text) where
   pub deliver-whole : n ≤ length out → (o : List ℕ) (r : ℕ) → written o r ≡ write (written out 0) text → delivery r o ≡ delivered out text
   unfolding delivered
   deliver-whole h o r e =
-      let z : 0 + length text ≡ length text = omega arith in
-      let f : written o r ≡ written (text ++ drop (length text) out) (length text) = e ∙ rw (← z) (write-fits out 0 text (omega arith)) in
+      let f = write-whole out text o r (omega arith) e in
       rw (le-ltb (length out) (length text) (omega arith)) (λ i. delivery (f i .at) (f i .bytes))
