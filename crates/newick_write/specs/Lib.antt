@@ -1,0 +1,2 @@
+-- What the contracts inside newick_write say.
+pub mod Given
