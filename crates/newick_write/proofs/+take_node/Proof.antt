@@ -1,8 +1,9 @@
-use Rattle.newick_write.proofs.PutLaws.{roomLaws}
+-- `newick_write::take_node` meets its contract: the depth falls. Assumes nothing.
 use borrow.Author.Needs.{needs}
 use Prim.Native.Nat.{ℕ, _<_}
 use borrow.Fn.Kinds.{In}
 use borrow.Fn.PlainCycle.{Measures, is, falls, and}
+use Rattle.newick_write.proofs.PutLaws.{roomLaws}
 use Rattle.newick_write.proofs.take_node.Reads as take-node
 use Rattle.newick_write.proofs.take_node.Kinds as take-node-kinds
 use Rattle.newick_write.proofs.+take_node.Lts-take_node as take-node-lts

@@ -1,9 +1,8 @@
-use Rattle.newick_write.proofs.PutLaws.{roomLaws, copyLaws}
+-- `newick_write::take` meets its contract. Assumes nothing.
 use borrow.Author.Needs.{needs}
+use Rattle.newick_write.proofs.PutLaws.{roomLaws, copyLaws}
 use Rattle.newick_write.proofs.take.Statement.{statement}
 use Rattle.newick_write.proofs.take.Tie as tie
-use Rattle.newick_write.proofs.take.Reads as reads
-use Rattle.newick_write.proofs.take.Lts as lts
 
 enum-known-space : tie.Need-enum-known-space
 enum-known-space c = search (roomLaws, copyLaws, needs)

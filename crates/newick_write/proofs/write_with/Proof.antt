@@ -1,11 +1,8 @@
-use Rattle.newick_write.proofs.WriteLaws.{writeLaws}
+-- `newick_write::write_with` meets its contract. Assumes nothing.
 use borrow.Author.Needs.{needs}
+use Rattle.newick_write.proofs.WriteLaws.{writeLaws}
 use Rattle.newick_write.proofs.write_with.Statement.{statement}
 use Rattle.newick_write.proofs.write_with.Tie as tie
-use Rattle.newick_write.proofs.write_with.Reads as reads
-use Rattle.newick_write.proofs.write_with.Lts as lts
-use Rattle.newick_write.proofs.print_ages.Reads as print-ages-reads
-use Rattle.newick_write.proofs.write_ages.Reads as write-ages-reads
 
 print-ages-requires : tie.Need-print-ages-requires
 print-ages-requires c κs = search (writeLaws, needs)

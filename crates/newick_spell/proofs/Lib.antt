@@ -1,0 +1,4 @@
+mod SpotLaws
+mod SideLaws
+mod MoveLaws
+mod TurnLaws

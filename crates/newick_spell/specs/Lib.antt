@@ -1,0 +1,5 @@
+-- Spelling has the answer, and SpellingLaws what it tells a caller; Spots and Stands have what the contracts of the pass cite.
+pub mod Spelling
+pub mod SpellingLaws
+pub mod Spots
+pub mod Stands
