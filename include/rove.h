@@ -20,8 +20,8 @@
  *   no record (fewer than ROVE_WORDS words) nothing at all.
  * All other words stay as they came.
  *
- * The archive, for x86-64 Linux: librove.a has all of these functions, shows no other name and needs the C library alone. The script hosts/archive makes
- * it, as target/archive/librove.a, the one file that a host links. */
+ * The archives, for x86-64 Linux: librove.a has all of these functions, librove_newick.a the two of Newick copies alone. Each shows no other name and needs
+ * the C library alone. The script hosts/archive makes them in target/archive; a host links one of the two. */
 #ifndef ROVE_H
 #define ROVE_H
 
@@ -79,7 +79,9 @@ enum {
     ROVE_REFUSAL_ALLOWANCE = 6,    /* more draws are needed than allowed: the allowance */
     ROVE_REFUSAL_NOT_FINITE = 7,   /* a new height is not finite: the lowest such node */
     ROVE_REFUSAL_OUTSIDE = 8,      /* a drawn height is outside its interval: the node */
-    ROVE_REFUSAL_LINE = 9          /* of the state file alone: the line */
+    ROVE_REFUSAL_LINE = 9,         /* of the state file alone: the line */
+    ROVE_REFUSAL_PLACE = 9,        /* of rove_read_newick alone: the place in the text */
+    ROVE_REFUSAL_ROOM = 10         /* of the Newick copies alone, a lent slice is too short for the result: 0 */
 };
 
 /* A float as a word, and back. */
@@ -229,6 +231,26 @@ enum { ROVE_LONGEST_ANSWER = 131072 };
 
 /* The answer to a state file, as text: how many bytes of `answer` were written, or 0 where it is too short, which then stays as it is. */
 size_t rove_answer(const uint8_t *file, size_t file_len, uint8_t *answer, size_t answer_len);
+
+/* ---- Newick copies: ((0:1.000,1:1.000):1.000,2:2.000); is one. Tips have their numbers, a pair's children stand in their order, and a branch has the
+ * difference of its ends' ages in thousandths, each age's rest having been dropped. Slices may be longer than the result: what is past it stays. */
+
+/* No copy has more bytes; 2,048 tips with 13 digits before the point of every length would have so many. */
+enum { ROVE_LONGEST_NEWICK = 86916 };
+
+/* The copy of a tree, without a newline, at the start of `out`, and the number of its bytes into ROVE_FIRST. After 1 to 4, a height of 2^43 or more is
+ * refused with 5 and 0, then a slice that is too short with ROVE_REFUSAL_ROOM. */
+uint64_t rove_write_newick(uint64_t *words, size_t words_len, const uint16_t *pairs, size_t pairs_len, const uint16_t *parents, size_t parents_len,
+                           const double *heights, size_t heights_len, uint8_t *out, size_t out_len);
+
+/* The tree of a copy with 2 to 2,048 tips and a root below 2^53 thousandths. Of its n nodes the 2n pairs, and the n ages in whole thousandths above the
+ * youngest tip, at the starts of `pairs` and `ages`; n into ROVE_FIRST. Internal nodes are numbered in the order in which their parentheses close, the root
+ * being n - 1. A text that is none is refused with ROVE_REFUSAL_PLACE, then slices that are too short with ROVE_REFUSAL_ROOM. The place is that, from 0, of
+ * the first byte that the spelling forbids, numbers of any size being well spelled; or text_len, where only the text's end, its tip numbers, its number of
+ * tips or its root's age is at fault. A text with more than 2,048 open parentheses, which is refused in any case, may take a time that grows with the
+ * square of its length. */
+uint64_t rove_read_newick(uint64_t *words, size_t words_len, const uint8_t *text, size_t text_len, uint16_t *pairs, size_t pairs_len, uint64_t *ages,
+                          size_t ages_len);
 
 /* ---- parameters. A flag is 0 for "missing", and any other number for "given". In and out: read, and written where the call is done. */
 

@@ -8,7 +8,7 @@
 
 #include "rove.h"
 
-enum { NODES = 5, TIPS = 3, RATES = 2 };
+enum { NODES = 5, TIPS = 3, RATES = 2, COPY = 40 };
 
 #define TIP ROVE_NO_NODE, ROVE_NO_NODE
 
@@ -19,6 +19,10 @@ struct host {
     uint16_t pairs[2 * NODES], parents[NODES], order[NODES];
     double heights[NODES], rates[RATES], minima[TIPS], maxima[TIPS];
     uint8_t members[TIPS];
+    uint8_t copy[COPY];
+    const char *text;
+    uint64_t ages[NODES + 1];
+    size_t room, ages_room; /* how much is lent of the copy or the pairs, and of the ages */
 };
 
 typedef uint64_t (*call)(struct host *h);
@@ -79,6 +83,9 @@ CALL(rove_changes_fbd)
 CALL(rove_changes_tree)
 CALL(rove_changes_topology)
 
+CALL_ON(rove_write_newick, TREE, h->copy, h->room)
+CALL_ON(rove_read_newick, (const uint8_t *)h->text, strlen(h->text), h->pairs, h->room, h->ages, h->ages_room)
+
 CALL(rove_scale)
 CALL(rove_clock_rate_scale)
 CALL(rove_birth_difference_scale)
@@ -111,6 +118,7 @@ static struct host tree_f(void)
         .parents = {3, 3, 4, 4, ROVE_NO_NODE},
         .heights = {0.0, 0.0, 0.0, 1.0, 2.0},
         .rates = {1.0, 2.0},
+        .text = "",
     };
     h.words[ROVE_TUNING] = rove_bits(0.5);
     return h;
@@ -151,7 +159,7 @@ static int same_tree(const struct host *a, const struct host *b)
 
 static int same(const struct host *a, const struct host *b)
 {
-    return SAME(words) && same_tree(a, b) && SAME(order) && SAME(rates) && SAME(minima) && SAME(maxima) && SAME(members);
+    return SAME(words) && same_tree(a, b) && SAME(order) && SAME(rates) && SAME(minima) && SAME(maxima) && SAME(members) && SAME(copy) && SAME(ages);
 }
 
 /* With a record that is one word short: the code is 3, and nothing is written. */
@@ -746,6 +754,79 @@ static void clade_age(call make, struct host *h)
     refused(make, h, ROVE_REFUSAL_PARAMETER, 0);
 }
 
+/* ---- Newick copies */
+
+/* The call is done with so many bytes or nodes. */
+static void copied(call make, struct host *h, uint64_t count)
+{
+    done(make, h, 0);
+    expect(h->words[ROVE_KIND] == 0 && h->words[ROVE_FIRST] == count && h->words[ROVE_SECOND] == 0, "the count");
+}
+
+/* The copy of F, in a slice of just its length and in a longer one; with other heights; and what is refused, in its order. */
+static void write_newick(call make, struct host *h)
+{
+    static const char copy[] = "((0:1.000,1:1.000):1.000,2:2.000);";
+    static const char dated[] = "((0:0.001,1:1.000):1.000,2:2.000);";
+    struct host after = *h;
+    memset(after.copy, '#', COPY);
+    memcpy(after.copy, copy, sizeof copy - 1);
+    h->room = sizeof copy - 2;
+    refused(make, h, ROVE_REFUSAL_ROOM, 0);
+    for (h->room = sizeof copy - 1; h->room <= COPY; h->room++) {
+        memset(h->copy, '#', COPY);
+        copied(make, h, sizeof copy - 1);
+        expect(same_tree(h, &after) && memcmp(h->copy, after.copy, COPY) == 0, "the copy of F");
+    }
+    h->room = COPY;
+    h->heights[0] = 0.9998;
+    h->heights[3] = 1.0004;
+    h->heights[4] = 2.0004;
+    copied(make, h, sizeof dated - 1);
+    expect(memcmp(h->copy, dated, sizeof dated - 1) == 0, "the copy with a dated tip");
+    h->room = 0;
+    h->heights[4] = 8796093022208.0;
+    refused(make, h, ROVE_REFUSAL_PARAMETER, 0);
+    h->heights[2] = -1.0;
+    refused(make, h, ROVE_REFUSAL_HEIGHT, 2);
+}
+
+/* A text is refused at a place, with no room lent. */
+static void faulty(call make, struct host *h, const char *text, uint64_t place)
+{
+    h->text = text;
+    h->room = h->ages_room = 0;
+    refused(make, h, ROVE_REFUSAL_PLACE, place);
+}
+
+/* The pairs and ages of a text, one age being lent more than it has; one pair or one age too few; and texts that are none. */
+static void read_newick(call make, struct host *h)
+{
+    const uint64_t ages[NODES + 1] = {999, 0, 2499, 1999, 2999, 7};
+    struct host before = *h;
+    h->text = "(2:0.500,(0:1.000,1:1.999):1.000);";
+    h->room = 2 * NODES - 1;
+    h->ages_room = NODES + 1;
+    refused(make, h, ROVE_REFUSAL_ROOM, 0);
+    h->room = 2 * NODES;
+    h->ages_room = NODES - 1;
+    refused(make, h, ROVE_REFUSAL_ROOM, 0);
+    memset(h->pairs, 0, sizeof h->pairs);
+    h->ages_room = NODES + 1;
+    h->ages[NODES] = 7;
+    copied(make, h, NODES);
+    expect(is_shaped(h, (const uint16_t[]){0, 1, 2, 3}, before.parents), "the pairs");
+    expect(memcmp(h->pairs, before.pairs, 2 * TIPS * sizeof h->pairs[0]) == 0, "the tips");
+    expect(memcmp(h->ages, ages, sizeof ages) == 0, "the ages");
+    faulty(make, h, "", 0);
+    faulty(make, h, "(0:1.000,1:1.000)", 17);
+    faulty(make, h, "(00:1.000,1:1.000);", 2);
+    faulty(make, h, "(0:1.000,1:1.000);\n", 18);
+    faulty(make, h, "(5:1.000,5:1.000)x", 17);
+    faulty(make, h, "(1:1.000,2:1.000);", 18);
+    faulty(make, h, "(0:9007199254740.992,1:0.000);", 30);
+}
+
 /* ---- the state file, which has no record */
 
 #define HEIGHTS "height=0000000000000000\nheight=0000000000000000\nheight=0000000000000000\nheight=3ff0000000000000\n"
@@ -807,6 +888,8 @@ static const struct {
     ROW(rove_changes_fbd, changes_fbd),
     ROW(rove_changes_tree, changes_tree),
     ROW(rove_changes_topology, changes_topology),
+    ROW(rove_write_newick, write_newick),
+    ROW(rove_read_newick, read_newick),
     ROW(rove_scale, scale),
     ROW(rove_clock_rate_scale, clock_rate_scale),
     ROW(rove_birth_difference_scale, birth_difference_scale),

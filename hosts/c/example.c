@@ -1,5 +1,5 @@
-/* Tree F of three tips, in memory: rove_new makes its parents, and RootScale with a tuning of 0.5 moves its root from the state 1, 2, 3, 4. What comes
- * of it is printed and compared with document 01's example. Exits with 1 where anything is wrong. */
+/* Tree F of three tips, in memory: rove_new makes its parents, its Newick copy is written, and RootScale with a tuning of 0.5 moves its root from the state
+ * 1, 2, 3, 4. What comes of it is printed and compared with the documents' examples. Exits with 1 where anything is wrong. */
 #include <inttypes.h>
 #include <stdio.h>
 
@@ -42,6 +42,16 @@ static void check_draws(void)
     expect(rove_next_u64(words, ROVE_WORDS) == ROVE_DONE && words[ROVE_FIRST] == 58720359, "the second draw");
 }
 
+/* The Newick copy of a tree whose root is in the record. */
+static void check_newick(uint64_t *words, const uint16_t *pairs, const uint16_t *parents, const double *heights)
+{
+    static const char copy[] = "((0:1.000,1:1.000):1.000,2:2.000);";
+    uint8_t out[ROVE_LONGEST_NEWICK];
+    uint64_t answer = rove_write_newick(words, ROVE_WORDS, pairs, 2 * NODES, parents, NODES, heights, NODES, out, sizeof out);
+    expect(answer == ROVE_DONE && words[ROVE_FIRST] == sizeof copy - 1 && memcmp(out, copy, sizeof copy - 1) == 0, "the Newick copy");
+    printf("newick=%.*s\n", (int)words[ROVE_FIRST], (const char *)out);
+}
+
 int main(void)
 {
     const uint16_t pairs[2 * NODES] = {TIP, TIP, TIP, 0, 1, 3, 2};
@@ -54,6 +64,7 @@ int main(void)
 
     expect(rove_new(words, ROVE_WORDS, pairs, 2 * NODES, heights, NODES, parents, NODES) == ROVE_DONE, "rove_new");
     expect(words[ROVE_ROOT] == 4 && parents[0] == 3 && parents[2] == 4 && parents[4] == ROVE_NO_NODE, "root and parents");
+    check_newick(words, pairs, parents, heights);
 
     set_state(words);
     words[ROVE_ALLOWANCE] = 9;
