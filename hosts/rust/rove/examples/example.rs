@@ -1,5 +1,5 @@
 //! Document 01's example: RootScale on the tree 3=(0,1) at 1, 4=(3,2) at 2, once by a state file and once in memory; and
-//! the same factor by the functions that give single values.
+//! the same factor by the functions that give single values, and the tree's Newick copy.
 
 use rove::{Answer, Generator, Move, Ratio, Tree};
 use std::fmt::Write;
@@ -35,6 +35,7 @@ fn main() {
     println!(
         "Its factor is {factor}; a chain starts with the tuning {tuning}, and the tree has a length of {length}."
     );
+    println!("{}", String::from_utf8(example_tree().newick().expect("a copy")).expect("text"));
 }
 
 fn example_tree() -> Tree {

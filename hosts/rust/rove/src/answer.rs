@@ -23,10 +23,15 @@ pub enum Refusal {
     Outside(u64),
     /// 9, the first line that is not of the state file's form; 0 for a file that is too long.
     Line(u64),
+    /// 9 of a Newick text: the place of the first byte that its spelling forbids; the text's length where only its end, its
+    /// tip numbers, its number of tips or its root's age is at fault.
+    Place(u64),
+    /// 10: a lent slice is too short for the result.
+    Room,
 }
 
 impl Refusal {
-    /// The refusal of a number and a detail.
+    /// The refusal of a number and a detail; a 9 is that of a state file.
     pub fn of(number: u64, detail: u64) -> Option<Self> {
         Some(match number {
             1 => Self::Size(detail),
@@ -38,6 +43,7 @@ impl Refusal {
             7 => Self::NotFinite(detail),
             8 => Self::Outside(detail),
             9 => Self::Line(detail),
+            10 => Self::Room,
             _ => return None,
         })
     }
@@ -52,13 +58,14 @@ impl Refusal {
             Self::Allowance(_) => 6,
             Self::NotFinite(_) => 7,
             Self::Outside(_) => 8,
-            Self::Line(_) => 9,
+            Self::Line(_) | Self::Place(_) => 9,
+            Self::Room => 10,
         }
     }
 
     pub fn detail(self) -> u64 {
         match self {
-            Self::Disconnected => 0,
+            Self::Disconnected | Self::Room => 0,
             Self::Size(detail)
             | Self::Shape(detail)
             | Self::Height(detail)
@@ -66,7 +73,8 @@ impl Refusal {
             | Self::Allowance(detail)
             | Self::NotFinite(detail)
             | Self::Outside(detail)
-            | Self::Line(detail) => detail,
+            | Self::Line(detail)
+            | Self::Place(detail) => detail,
         }
     }
 }

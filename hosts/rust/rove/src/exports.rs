@@ -107,6 +107,12 @@ exports! {
     rove_tree_length(parents: read u16, heights: read f64);
 }
 
+// Of the crate rove_newick.
+exports! {
+    rove_write_newick(pairs: read u16, parents: read u16, heights: read f64, out: lend u8);
+    rove_read_newick(text: read u8, pairs: lend u16, ages: lend u64);
+}
+
 /// The generator of a seed, into words 0 to 3.
 pub fn rove_seed(seed: u64, words: &mut [u64]) -> u64 {
     unsafe extern "C" {

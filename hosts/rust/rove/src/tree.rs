@@ -227,7 +227,7 @@ impl Tree {
     }
 
     /// The record of a call that does not draw.
-    fn record(&self) -> Record {
+    pub(crate) fn record(&self) -> Record {
         let mut record = Record::empty();
         record.set_index(word::ROOT, self.root);
         record

@@ -150,13 +150,15 @@ fn ratios() {
 
 #[test]
 fn refusals() {
-    for number in 1..=9 {
+    for number in 1..=10 {
         let refusal = Refusal::of(number, 7).expect("a refusal");
         assert_eq!(refusal.number(), number);
-        assert_eq!(refusal.detail(), if number == 3 { 0 } else { 7 });
+        assert_eq!(refusal.detail(), if number == 3 || number == 10 { 0 } else { 7 });
         assert_eq!(refusal.to_string(), format!("refused,{number},{}", refusal.detail()));
     }
-    assert_eq!(Refusal::of(0, 0), None);
+    assert_eq!([Refusal::of(0, 0), Refusal::of(11, 0)], [None; 2]);
+    assert_eq!(Refusal::of(9, 7), Some(Refusal::Line(7)));
+    assert_eq!((Refusal::Place(7).number(), Refusal::Place(7).detail()), (9, 7));
 }
 
 #[test]
@@ -284,4 +286,37 @@ fn densities_and_clades() {
 fn file() {
     assert_eq!(answer(b""), b"answer=refused,9,1\n");
     assert_eq!(answer(&vec![b'\n'; 131_073]), b"answer=refused,9,0\n");
+}
+
+#[test]
+fn newick() {
+    let mut tree = tree_f();
+    let text = b"((0:1.000,1:1.000):1.000,2:2.000);";
+    assert_eq!(tree.newick(), Ok(text.to_vec()));
+    let read = NewickTree { pairs: tree.pairs.clone(), ages: vec![0, 0, 0, 1000, 2000] };
+    assert_eq!(read_newick(text), Ok(read));
+    assert_eq!(read_newick(&text[..33]), Err(Refusal::Place(33)));
+    assert_eq!(read_newick(b"(0:1.000,1:1.0000);"), Err(Refusal::Place(16)));
+    tree.heights[4] = (1u64 << 43) as f64;
+    assert_eq!(tree.newick(), Err(Refusal::Parameter(0)));
+    tree.root = 3;
+    assert_eq!(tree.newick(), Err(Refusal::Disconnected));
+}
+
+/// A comb of as many tips as there may be, numbered in the order in which its parentheses close.
+#[test]
+fn longest_newick() {
+    let (tips, nodes) = (2048, 4095);
+    let mut pairs = vec![NONE; 2 * nodes];
+    for node in tips..nodes {
+        let below = if node == tips { 0 } else { node - 1 };
+        pairs[2 * node..2 * node + 2].copy_from_slice(&[below as u16, (node - tips + 1) as u16]);
+    }
+    let heights = (0..nodes).map(|node| node.saturating_sub(tips - 1) as f64).collect();
+    let text = Tree::new(pairs.clone(), heights).and_then(|tree| tree.newick()).expect("a copy");
+    assert!(text.len() <= LONGEST_NEWICK);
+    let ages = (0..nodes).map(|node| 1000 * node.saturating_sub(tips - 1) as u64).collect();
+    assert_eq!(read_newick(&text), Ok(NewickTree { pairs, ages }));
+    let more = [b"(".as_slice(), &text[..text.len() - 1], b":1.000,2048:1.000);"].concat();
+    assert_eq!(read_newick(&more), Err(Refusal::Place(more.len() as u64)));
 }
