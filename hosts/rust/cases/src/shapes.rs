@@ -119,6 +119,59 @@ impl Sample {
         sample
     }
 
+    /// A comb of so many tips, each height one above the next: the long side is the first child of every node, or the second.
+    /// Numbered in the order of its heights.
+    pub fn comb(tips: usize, first: bool) -> Self {
+        let nodes = 2 * tips - 1;
+        let mut pairs = vec![NONE; 2 * nodes];
+        for node in tips..nodes {
+            let long = if node == tips { 0 } else { node - 1 };
+            let (a, b) = if first { (long, node - tips + 1) } else { (node - tips + 1, long) };
+            pairs[2 * node] = a as u16;
+            pairs[2 * node + 1] = b as u16;
+        }
+        let heights = (0..nodes).map(|node| node.saturating_sub(tips - 1) as f64).collect();
+        Self { pairs, heights }
+    }
+
+    /// A tree of so many tips that is as flat as one can be, each height half above the taller child's.
+    pub fn balanced(tips: usize) -> Self {
+        let nodes = 2 * tips - 1;
+        let mut sample = Self { pairs: vec![NONE; 2 * nodes], heights: vec![0.0; nodes] };
+        for node in tips..nodes {
+            let a = 2 * (node - tips);
+            sample.pairs[2 * node] = a as u16;
+            sample.pairs[2 * node + 1] = a as u16 + 1;
+            sample.heights[node] = sample.heights[a].max(sample.heights[a + 1]) + 0.5;
+        }
+        sample
+    }
+
+    /// The same tree with its internal nodes numbered in the order in which the parentheses of its Newick copy close.
+    pub fn closing(&self) -> Self {
+        let (tips, mut next) = (self.tips(), self.tips());
+        let mut numbers: Vec<usize> = (0..self.nodes()).collect();
+        let mut pairs = vec![NONE; 2 * self.nodes()];
+        let mut heights = self.heights.clone();
+        let mut stack = vec![(self.root(), false)];
+        while let Some((node, below)) = stack.pop() {
+            if node < tips {
+                continue;
+            }
+            let (a, b) = self.pair(node);
+            if below {
+                pairs[2 * next] = numbers[a] as u16;
+                pairs[2 * next + 1] = numbers[b] as u16;
+                heights[next] = self.heights[node];
+                numbers[node] = next;
+                next += 1;
+            } else {
+                stack.extend([(node, true), (b, false), (a, false)]);
+            }
+        }
+        Self { pairs, heights }
+    }
+
     /// Scales the heights so that the root comes near the largest float, where they are to be huge. Products round in
     /// order, so that no child comes above its parent.
     fn stretch(&mut self, chance: &mut Chance, dating: Dating) {

@@ -6,6 +6,7 @@ use crate::plain::{bits, children, same_float, same_floats, shown};
 use crate::trees::{Called, answered, called, stepped};
 use crate::wrong::{judged, wrong_tree};
 use cases::Chance;
+use cases::age::thousandths;
 use rove::{Record, Refusal, Tree, exports, word};
 use scripted::dating::{Dating, FossilizedBirthDeath, TipAge};
 use scripted::random::Random;
@@ -305,7 +306,8 @@ pub fn clade_age(chance: &mut Chance) -> Compared<&'static str> {
     let call = called(record, |words| {
         exports::rove_clade_age(&tree.pairs, &tree.parents, &tree.heights, &members, words)
     });
-    let age = with_marks(&tree, &members).and_then(|rust| thousandths(clade_height(&rust, &members)));
+    let age = with_marks(&tree, &members)
+        .and_then(|rust| clade_height(&rust, &members).and_then(thousandths).ok_or(Refusal::Parameter(0)));
     let result = match age {
         Err(why) => call.is_refused(why),
         Ok(age) => call.is(0, &answered(0, 0, 0, age, 0)).map(|()| "given"),
@@ -325,16 +327,4 @@ fn clade_height(tree: &reference::tree::Tree, members: &[u8]) -> Option<f64> {
         below[node] == size && size > 0
     };
     tree.postorder().into_iter().find(|node| over(node)).map(|node| tree.height(node))
-}
-
-/// Whole thousandths of a height below 2^43, by integers: a significand times a power of two.
-fn thousandths(height: Option<f64>) -> Result<u64, Refusal> {
-    let limit = (1u64 << 43) as f64;
-    let height = height.filter(|&height| height < limit).ok_or(Refusal::Parameter(0))?;
-    let bits = height.to_bits() & (u64::MAX >> 1);
-    let (exponent, fraction) = (bits >> 52, bits & ((1 << 52) - 1));
-    let (significand, shift) =
-        if exponent == 0 { (fraction, 1074) } else { (fraction | 1 << 52, 1075 - exponent) };
-    let scaled = u128::from(significand) * 1000;
-    Ok(scaled.checked_shr(shift as u32).unwrap_or(0) as u64)
 }

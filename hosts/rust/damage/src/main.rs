@@ -4,7 +4,6 @@
 //!
 //!     damage N [--seed S]
 
-mod guarded;
 mod short;
 mod text;
 mod trees;

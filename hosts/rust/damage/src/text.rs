@@ -1,9 +1,8 @@
 //! `rove_answer` on any bytes, with answer slices of all lengths about that of the text.
 
-use crate::guarded::Guarded;
 use cases::answers::in_form;
 use cases::damage::damaged;
-use cases::{Chance, Kind, Progress, Sample, StateFile, shapes};
+use cases::{Chance, Guarded, Kind, Progress, Sample, StateFile, shapes};
 use rove::{LONGEST_ANSWER, exports};
 
 pub fn damage(count: u64, seed: u64) -> Result<String, String> {
@@ -67,8 +66,7 @@ fn answer(chance: &mut Chance, file: &[u8]) -> Result<Vec<u8>, String> {
     in_form(&text, &StateFile::read(file.items()))
         .map_err(|fault| format!("{fault}: {}", text.escape_ascii()))?;
     for room in [0, length - 1, length, length + 1, chance.below(length), length + chance.below(50)] {
-        let space: Vec<u8> = (0..room).map(|_| chance.word() as u8).collect();
-        let mut space = Guarded::new(&space, |word| word as u8, chance);
+        let mut space = Guarded::any(room, |word| word as u8, chance);
         let given = exports::rove_answer(file.items(), space.items_mut());
         let expected = if room < length { 0 } else { length };
         if given != expected || !space.kept_but(expected) || space.items()[..expected] != text[..expected] {

@@ -1,7 +1,6 @@
 //! The functions that do not look at the tree, on slices that are none: they end and stay within them.
 
-use crate::guarded::Guarded;
-use cases::{Chance, Progress, Sample, shapes};
+use cases::{Chance, Guarded, Progress, Sample, shapes};
 use rove::{WORDS, exports, word};
 
 type Unvalidated = fn(&mut [u16], &mut [u16], &mut [f64], &mut [u64]) -> u64;

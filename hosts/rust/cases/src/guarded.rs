@@ -1,6 +1,6 @@
 //! Slices with guards on both sides.
 
-use cases::Chance;
+use crate::chance::Chance;
 
 const GUARD: usize = 64;
 
@@ -18,6 +18,12 @@ impl<T: Copy + PartialEq> Guarded<T> {
         whole.extend((0..GUARD).map(|_| noise(chance.word())));
         let before = whole.clone();
         Self { whole, before }
+    }
+
+    /// So many items, made by chance too.
+    pub fn any(length: usize, noise: impl Fn(u64) -> T, chance: &mut Chance) -> Self {
+        let items: Vec<T> = (0..length).map(|_| noise(chance.word())).collect();
+        Self::new(&items, noise, chance)
     }
 
     pub fn items(&self) -> &[T] {
