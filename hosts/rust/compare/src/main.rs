@@ -1,14 +1,16 @@
 //! Runs the port beside the Rust, in one process and by bits, and stops at the first difference, which it prints in full.
 //!
-//!     compare files N | moves N | trees N | parameters N
-//!     compare all [--files N] [--moves N] [--trees N] [--parameters N]
+//!     compare files N | moves N | trees N | parameters N | newick N
+//!     compare all [--files N] [--moves N] [--trees N] [--parameters N] [--newick N]
 //!     compare replay FILE
 //!
 //! `--seed S` gives other cases.
 
+mod copies;
 mod dating;
 mod files;
 mod moves;
+mod newick;
 mod oracle;
 mod parameters;
 mod plain;
@@ -16,6 +18,7 @@ mod port;
 mod ratio;
 mod replay;
 mod tally;
+mod texts;
 mod trees;
 mod values;
 mod wrong;
@@ -24,17 +27,18 @@ use oracle::Compared;
 use std::process::ExitCode;
 use tally::Tally;
 
-const USAGE: &str = "usage: compare files|moves|trees|parameters N, compare all [--files N] [--moves N] [--trees N] \
-                     [--parameters N], or compare replay FILE; each with [--seed S]";
+const USAGE: &str = "usage: compare files|moves|trees|parameters|newick N, compare all [--files N] [--moves N] \
+                     [--trees N] [--parameters N] [--newick N], or compare replay FILE; each with [--seed S]";
 
 /// A part: its name, and the function that compares so many cases from a seed.
 type Part = (&'static str, fn(u64, u64) -> Compared<Tally>);
 
-const PARTS: [Part; 4] = [
+const PARTS: [Part; 5] = [
     ("files", files::compare),
     ("moves", moves::compare),
     ("trees", trees::compare),
     ("parameters", parameters::compare),
+    ("newick", newick::compare),
 ];
 
 fn main() -> ExitCode {

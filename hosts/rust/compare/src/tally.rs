@@ -59,6 +59,6 @@ impl fmt::Display for Tally {
 
 /// The word for a refusal's number.
 pub fn refused(number: u64) -> &'static str {
-    const WORDS: [&str; 10] = ["0", "1", "2", "3", "4", "5", "6", "7", "8", "9"];
+    const WORDS: [&str; 11] = ["0", "1", "2", "3", "4", "5", "6", "7", "8", "9", "10"];
     WORDS.get(number as usize).copied().unwrap_or("?")
 }
