@@ -1,9 +1,10 @@
-//! Gives the port's functions what no host should: bytes that are no state file, answer slices that are too short, trees
-//! that are none and records that are too short. Nothing may be read or written outside the slices (guards stand on both
-//! sides of each), every call has to end, and what the papers say of the answer has to hold.
+//! Gives the port's functions what no host should: bytes that are no state file and no Newick copy, slices that are too
+//! short for a result, trees that are none and records that are too short. Nothing may be read or written outside the
+//! slices (guards stand on both sides of each), every call has to end, and what the papers say of the answer has to hold.
 //!
 //!     damage N [--seed S]
 
+mod newick;
 mod short;
 mod text;
 mod trees;
@@ -32,5 +33,6 @@ fn run(words: &[String]) -> Result<(), String> {
     println!("{}", trees::deep()?);
     println!("{}", text::damage(count, seed)?);
     println!("{}", trees::damage(count, seed)?);
+    println!("{}", newick::damage(count, seed)?);
     Ok(())
 }

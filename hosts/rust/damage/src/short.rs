@@ -15,6 +15,9 @@ macro_rules! calls {
     (@ floats $a:ident $b:ident $x:ident $y:ident) => { $y };
     (@ marks $a:ident $b:ident $x:ident $y:ident) => { &[0; 2] };
     (@ order $a:ident $b:ident $x:ident $y:ident) => { &mut [0; 3] };
+    (@ text $a:ident $b:ident $x:ident $y:ident) => { b"(0:1.000,1:1.000);" };
+    (@ copy $a:ident $b:ident $x:ident $y:ident) => { &mut [0; 20] };
+    (@ ages $a:ident $b:ident $x:ident $y:ident) => { &mut [0; 3] };
 }
 
 const MOVES: &[(&str, Call)] = calls! {
@@ -48,10 +51,14 @@ const VALUES: &[(&str, Call)] = calls! {
     rove_changes_topology() rove_estimates() rove_branch_length(parents, heights) rove_tree_length(parents, heights)
 };
 
+const NEWICK: &[(&str, Call)] = calls! {
+    rove_write_newick(pairs, parents, heights, copy) rove_read_newick(text, pairs, ages)
+};
+
 /// The tree of two tips, on which each call would do something.
 pub fn records() -> Result<String, String> {
     let mut count = 0;
-    for &(name, call) in [MOVES, UNVALIDATED, PARAMETERS, VALUES].into_iter().flatten() {
+    for &(name, call) in [MOVES, UNVALIDATED, PARAMETERS, VALUES, NEWICK].into_iter().flatten() {
         for length in 0..WORDS {
             let mut slices = (
                 vec![65_535, 65_535, 65_535, 65_535, 0, 1],

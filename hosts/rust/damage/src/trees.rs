@@ -83,7 +83,7 @@ fn call(chance: &mut Chance) -> Result<u64, String> {
 }
 
 /// Slices of a tree with much of it changed.
-fn slices(chance: &mut Chance, tips: usize) -> (Vec<u16>, Vec<u16>, Vec<f64>, usize) {
+pub fn slices(chance: &mut Chance, tips: usize) -> (Vec<u16>, Vec<u16>, Vec<f64>, usize) {
     let Sample { mut pairs, mut heights } = Sample::tree(chance, tips);
     let sample = Sample { pairs: pairs.clone(), heights: heights.clone() };
     let (mut parents, mut root) = (sample.parents(), sample.root());
