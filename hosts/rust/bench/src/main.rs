@@ -3,6 +3,7 @@
 
 mod files;
 mod moves;
+mod newick;
 mod parameters;
 mod rounds;
 
@@ -10,4 +11,5 @@ fn main() {
     moves::table();
     parameters::table();
     files::table();
+    newick::table();
 }
