@@ -1,0 +1,111 @@
+-- The ways through the copy of a tree: what the writer answered of an accepted one (`handed-copy`), and what `tree::new` said of its pairs and heights
+-- (`new-refused`, `new-made`). Assumes nothing.
+use mathlib.Core.Path.{_≡_, refl, sym, ap, _∙_}
+use mathlib.Core.Bool.{Bool, true, false, cond}
+use mathlib.Core.List.{List, _++_}
+use Prim.Native.Nat.{ℕ}
+use native.Mathlib.Omega.{arith}
+use borrow.Author.Tests.{eq-eqb, ne-eqb}
+use lib.Dec.{ltb}
+use lib.ListN.{length, drop}
+use lib.Ieee.{Float}
+use Rattle.answer.specs.declared.Refusal.{Refusal}
+use Rattle.answer.specs.declared.Refusal.the-variants.{Room}
+use Rattle.answer.specs.Answers.{numberOf}
+use Rattle.tree.specs.declared.Rooted.{Rooted}
+use Rattle.tree.specs.declared.Rooted.the-variants as Roots
+use Rattle.tree.specs.Tree.{Tree, nodesOf}
+use Rattle.tree.specs.New.{New, refused, made, newTree, Accepted, NewCall, newAnswered, newCall}
+use Rattle.tree.specs.Given.{treeOf, newGiven}
+use Rattle.accepted.specs.AcceptedLaws.{new-given, accepted-valid}
+use Rattle.accepted.specs.ValidatedLaws.{valid-fine}
+use Rattle.newick.specs.declared.Copied.{Copied}
+use Rattle.newick.specs.declared.Copied.the-variants.{Bytes, Refused}
+use Rattle.newick.specs.Copies.{Aged, tooOld, aged, agesOf, treeText, CopyCall, copied, placed, copyAged, copyJudged, copyCall}
+use Rattle.report.specs.Report.{refusedText, Delivery, delivery, delivered}
+use Rattle.copying.specs.Copying.{agedText, copyText, treeCopy}
+use Rattle.copying.specs.Given.{handed}
+
+-- ---- the writer's answer
+
+-- r is the answer, out the slice after it
+module _ (r : Copied) (out : List ℕ) where
+  pub told-bytes : (count : ℕ) → r ≡ Bytes count → delivery count out ≡ handed r out
+  told-bytes count y = rw y
+
+  module _ (why : Refusal) (y : r ≡ Refused why) (k : ℕ) (e : k ≡ numberOf why) where
+    pub told-room : k ≡ 10 → delivery 0 out ≡ handed r out
+    told-room h = rw (y, eq-eqb (numberOf why) 10 (sym e ∙ h))
+
+    pub told-other : (k ≡ 10 → ⊥) → (d : Delivery) → d ≡ delivered out (refusedText why) → d ≡ handed r out
+    told-other h d f = rw (y, ne-eqb (numberOf why) 10 (λ (z : numberOf why ≡ 10). h (e ∙ z))) f
+
+pub ruleset toldLaws = (told-bytes, told-room, told-other)
+
+handed-placed : (out s : List ℕ) → handed (placed out s .answer) (placed out s .out) ≡ delivered out s
+unfolding placed delivered
+handed-placed out s = go (ltb (length out) (length s))
+  where
+    text : List ℕ
+    text = s ++ drop (length s) out
+
+    call : Bool → CopyCall
+    call b = cond b (copied (Refused Room) out) (copied (Bytes (length s)) text)
+
+    go : (b : Bool) → handed (call b .answer) (call b .out) ≡ cond b (delivery 0 out) (delivery (length s) text)
+    go true = refl
+    go false = refl
+
+module _ (t : Tree) (out : List ℕ) where
+  handed-aged : (x : Aged) → handed (copyAged t out x .answer) (copyAged t out x .out) ≡ delivered out (agedText t x)
+  handed-aged tooOld = refl
+  handed-aged (aged ages) = handed-placed out (treeText (t .pairs) (t .root) ages)
+
+  -- an accepted tree is not judged otherwise by the writer
+  pub handed-copy : Accepted t → (r : Copied) (after : List ℕ) → copied r after ≡ copyCall t out
+      → (d : Delivery) → d ≡ handed r after → d ≡ delivered out (copyText t)
+  unfolding copyCall copyText
+  handed-copy a r after e d f =
+      let fine = valid-fine (nodesOf (t .pairs)) t (accepted-valid t a) in
+      let g : copied r after ≡ copyAged t out (agesOf (t .heights)) = e ∙ ap (copyJudged t out) fine in
+      f ∙ ap (λ (c : CopyCall). handed (c .answer) (c .out)) g ∙ handed-aged (agesOf (t .heights))
+
+-- ---- the tree
+
+-- r and ps are what `tree::new` answered and the parents after it
+module _ (pairs parents ps : List ℕ) (heights : List Float) (each : length parents ≡ nodesOf pairs) (r : Rooted)
+    (e : newGiven r ps ≡ newCall pairs heights parents) where
+  answers : newGiven r ps ≡ newAnswered parents (newTree pairs heights)
+  unfolding newCall
+  answers = rw (eq-eqb (length parents) (nodesOf pairs) each) at e
+
+  new-refused : (why : Refusal) → r ≡ Roots.Refused why → newTree pairs heights ≡ refused why
+  new-refused why y = go (newTree pairs heights) answers
+    where
+      go : (n : New) → newGiven r ps ≡ newAnswered parents n → n ≡ refused why
+      go (refused w) a = let q : r ≡ Roots.Refused w = ap (λ (c : NewCall). c .answer) a in cc
+      go (made t) a = let q : r ≡ Roots.Root (t .root) = ap (λ (c : NewCall). c .answer) a in let z : _≡_ {A = ℕ} 0 1 = cc in absurd (omega arith)
+
+  pub new-made : (root : ℕ) → r ≡ Roots.Root root → newTree pairs heights ≡ made (treeOf pairs ps heights root)
+  new-made root y = go (newTree pairs heights) refl answers
+    where
+      go : (n : New) → newTree pairs heights ≡ n → newGiven r ps ≡ newAnswered parents n → n ≡ made (treeOf pairs ps heights root)
+      go (refused w) m a = let q : r ≡ Roots.Refused w = ap (λ (c : NewCall). c .answer) a in let z : _≡_ {A = ℕ} 0 1 = cc in absurd (omega arith)
+      go (made t) m a =
+          let q : r ≡ Roots.Root (t .root) = ap (λ (c : NewCall). c .answer) a in
+          let f : t .root ≡ root = cc in
+          let g = new-given pairs heights t m in
+          let h : t .parents ≡ ps = sym (ap (λ (c : NewCall). c .parents) a) in
+          ap made (λ i. record { pairs = g .0 i; parents = h i; heights = g .1 i; root = f i })
+
+  module _ (out : List ℕ) (d : Delivery) where
+    pub tree-refused : (why : Refusal) → r ≡ Roots.Refused why → d ≡ delivered out (refusedText why) → d ≡ delivered out (treeCopy (newTree pairs heights))
+    unfolding treeCopy
+    tree-refused why y h = rw (new-refused why y) h
+
+    pub tree-made : (root : ℕ) → r ≡ Roots.Root root → d ≡ delivered out (copyText (treeOf pairs ps heights root))
+        → d ≡ delivered out (treeCopy (newTree pairs heights))
+    unfolding treeCopy
+    tree-made root y h = rw (new-made root y) h
+
+pub ruleset treeLaws = (new-made, tree-refused, tree-made)

@@ -1,0 +1,4 @@
+-- The laws that the proofs of newick_file share.
+mod StoreLaws
+mod ByteLaws
+mod PassLaws

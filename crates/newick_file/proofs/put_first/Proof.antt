@@ -1,0 +1,30 @@
+-- `newick_file::put_first` meets its contract. Assumes nothing.
+use Rattle.newick_file.proofs.StoreLaws.{storeLaws}
+use borrow.Author.Needs.{needs}
+use Rattle.newick_file.proofs.put_first.Statement.{statement}
+use Rattle.newick_file.proofs.put_first.Tie as tie
+
+sub-if1 : tie.Need-sub-if1
+sub-if1 c = search needs
+
+add-l : tie.Need-add-l
+add-l c = search needs
+
+mul-l : tie.Need-mul-l
+mul-l c = search needs
+
+slice-write-l : tie.Need-slice-write-l
+slice-write-l c = search needs
+
+same-length : tie.Need-same-length
+same-length c = search needs
+
+returns : tie.Need-returns
+returns c = search (storeLaws, needs)
+
+returns-2 : tie.Need-returns-2
+returns-2 c = search (storeLaws, needs)
+
+pub put-first-spec : {M : Type 1} → statement M
+put-first-spec =
+    tie.close (tie.spec sub-if1 add-l mul-l slice-write-l same-length returns returns-2)

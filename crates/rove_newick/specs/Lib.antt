@@ -1,0 +1,2 @@
+-- The definitions that the contracts of rove_newick cite.
+pub mod Exports
