@@ -1,10 +1,10 @@
--- Laws of the printed ages of a tree's heights: each is its height's (`aged-at`), all are printed where every height is below 2^43 (`all-aged`), and of a valid
--- tree an older node never prints younger than one below it (`ages-order`, `ages-ordered`). Assumes nothing.
+-- Laws of the printed ages of a tree's heights: each is its height's (`aged-at`), all are printed where every height is below 2^43 (`all-aged`), and of a
+-- valid tree each is below 2^43 (`age-few`), and a parent never prints younger than its child (`ages-order`, `ages-ordered`). Assumes nothing.
 use mathlib.Core.Path.{_≡_, refl, sym, ap, _∙_, subst}
 use mathlib.Core.Logic.{_≢_}
 use mathlib.Core.Bool.{Bool, true, false, cond, _&&_, not}
 use mathlib.Core.List.{List, [], _∷_}
-use Prim.Native.Nat.{ℕ, zero, suc, _+_, _*_, _^_, _≤_, _<_}
+use Prim.Native.Nat.{ℕ, zero, suc, _*_, _^_, _≤_, _<_}
 use native.Mathlib.Omega.{arith}
 use lib.Dec.{T}
 use lib.ListN.{length, getD}
@@ -29,24 +29,27 @@ aged-same : (l m : List ℕ) → aged l ≡ aged m → l ≡ m
 aged-same l m e = cc
 
 -- one age for each height, in its order
-pub record Ages (xs : List Float) (l : List ℕ) : Type 0 where
-  pub long : length l ≡ length xs
-  pub each : (k : ℕ) → k < length xs → printedOf (getD xs k nan) ≡ Thousandths (getD l k 0)
+record Ages (xs : List Float) (l : List ℕ) : Type 0 where
+  long : length l ≡ length xs
+  each : (k : ℕ) → k < length xs → printedOf (getD xs k nan) ≡ Thousandths (getD l k 0)
 
-pub aged-at : (xs : List Float) (l : List ℕ) → agesOf xs ≡ aged l → Ages xs l
+aged-at : (xs : List Float) (l : List ℕ) → agesOf xs ≡ aged l → Ages xs l
 unfolding agesOf
 aged-at [] l e = record { long = ap length (sym (aged-same [] l e)); each = λ k K. absurd (omega arith) }
 aged-at (x ∷ xs) l e = go (printedOf x) refl (agesOf xs) refl (aged-at xs) e
   where
-    go : (p : Printed) → printedOf x ≡ p → (r : Aged) → agesOf xs ≡ r → ((m : List ℕ) → agesOf xs ≡ aged m → Ages xs m) → andAged p r ≡ aged l → Ages (x ∷ xs) l
+    go : (p : Printed) → printedOf x ≡ p → (r : Aged) → agesOf xs ≡ r → ((m : List ℕ) → agesOf xs ≡ aged m → Ages xs m)
+        → andAged p r ≡ aged l → Ages (x ∷ xs) l
     go Outside q r f rest e = absurd (old-clash l e)
     go (Thousandths c) q tooOld f rest e = absurd (old-clash l e)
-    go (Thousandths c) q (aged m) f rest e = subst (Ages (x ∷ xs)) (aged-same (c ∷ m) l e) (record { long = ap suc (rest m f .long); each = at (rest m f) })
+    go (Thousandths c) q (aged m) f rest e =
+        subst (Ages (x ∷ xs)) (aged-same (c ∷ m) l e) (record { long = ap suc (rest m f .long); each = at (rest m f) })
       where
         at : Ages xs m → (k : ℕ) → k < suc (length xs) → printedOf (getD (x ∷ xs) k nan) ≡ Thousandths (getD (c ∷ m) k 0)
         at i zero K = q
         at i (suc k) K = i .each k (omega arith)
 
+-- no height is below 0, and each is below 2^43
 pub all-aged : (xs : List Float) → ((k : ℕ) → k < length xs → T (not (lt (getD xs k nan) Real.zero)) × T (lt (getD xs k nan) printLimit))
     → (l : List ℕ) × (agesOf xs ≡ aged l)
 unfolding agesOf printedOf
@@ -56,7 +59,8 @@ all-aged (x ∷ xs) h =
     let z = h zero (omega arith) in
     (thousandthsOf x ∷ r .0, ap (andAged (printedOf x)) (r .1) ∙ go (lt x Real.zero) (lt x printLimit) (z .0) (z .1) (r .0))
   where
-    go : (a b : Bool) → T (not a) → T b → (l : List ℕ) → andAged (cond (not a && b) (Thousandths (thousandthsOf x)) Outside) (aged l) ≡ aged (thousandthsOf x ∷ l)
+    go : (a b : Bool) → T (not a) → T b → (l : List ℕ)
+        → andAged (cond (not a && b) (Thousandths (thousandthsOf x)) Outside) (aged l) ≡ aged (thousandthsOf x ∷ l)
     go false true p q l = refl
     go true b p q l = absurd p
     go false false p q l = absurd q
@@ -68,19 +72,21 @@ module _ (n : ℕ) (t : Tree) (v : Valid n t) (l : List ℕ) (P : agesOf (t .hei
   unfolding height
   age-printed k K = aged-at (t .heights) l P .each k (let h = v .sized .heights in omega arith)
 
-  -- as document 01 has the limit of what is printed
+  -- below the limit that document 01 sets to what is printed
   pub age-few : (k : ℕ) → k < n → getD l k 0 < 2 ^ 43 * 1000
   age-few k K = printed-few (height t k) (getD l k 0) (age-printed k K)
 
-  -- an older node never prints younger than its child
+  -- a parent never prints younger than its child
   pub ages-order : (c : ℕ) → c < n → c ≢ t .root → getD l c 0 ≤ getD l (parent t c) 0
   ages-order c C r =
-      let p = v .below c C r .parent-node in
-      printed-order (height t c) (getD l c 0) (age-printed c C) (height t (parent t c)) (getD l (parent t c) 0) (age-printed (parent t c) p) (v .dated .ordered c C r)
+      let p = parent t c in
+      printed-order (height t c) (getD l c 0) (age-printed c C)
+      (height t p) (getD l p 0) (age-printed p (v .below c C r .parent-node)) (v .dated .ordered c C r)
 
   pub ages-ordered : Ordered n t l
   ages-ordered k K i =
       let x = v .inner k K i in
-      let a = ages-order (first t k) (x .first-node) (under-root n t (valid-linked v) k K (first t k) (x .first-parent)) in
-      let b = ages-order (second t k) (x .second-node) (under-root n t (valid-linked v) k K (second t k) (x .second-parent)) in
-      (subst (λ (m : ℕ). getD l (first t k) 0 ≤ getD l m 0) (x .first-parent) a, subst (λ (m : ℕ). getD l (second t k) 0 ≤ getD l m 0) (x .second-parent) b)
+      (child (first t k) (x .first-node) (x .first-parent), child (second t k) (x .second-node) (x .second-parent))
+    where
+      child : (c : ℕ) → c < n → parent t c ≡ k → getD l c 0 ≤ getD l k 0
+      child c C e = subst (λ (m : ℕ). getD l c 0 ≤ getD l m 0) e (ages-order c C (under-root n t (valid-linked v) k K c e))

@@ -1,12 +1,12 @@
--- The theorems of change request S-1. Of a valid tree whose heights all print: lengths down a path add up (`path-adds`), its copy is written (`copy-written`)
--- and read (`copy-read`), and where it is numbered in closing order it comes back with its own pairs and with its printed ages above the youngest tip's
--- (`own`, `own-ages`). Of a text that is read: written again it is the text (`read-again`), and one tip has age 0 (`youngest`). Of one that is not: the place of
--- the fault (`place`). Assumes nothing.
+-- The theorems of change request S-1. Of a valid tree whose heights all print: lengths down a path add up (`path-adds`), its copy is read (`copy-read`) and
+-- written (`copy-written`), and where it is numbered in closing order it comes back with its own pairs and with its printed ages above the youngest tip's
+-- (`own`, `own-ages`); heights below 2^43 all print (`ages-printed`). Of a text that is read: written again it is the text (`read-again`), one tip has age 0
+-- (`youngest`), and every age is below 2^53 (`ages-below`). Of one that is not: the place of the fault (`place`). Assumes nothing.
 use mathlib.Core.Path.{_≡_, refl, sym, ap, _∙_, subst}
 use mathlib.Core.Logic.{_⊎_, inl, inr}
-use mathlib.Core.Bool.{Bool, true, false, cond, not}
+use mathlib.Core.Bool.{Bool, true, false, cond}
 use mathlib.Core.List.{List, [], _∷_, _++_}
-use Prim.Native.Nat.{ℕ, suc, _+_, _-_, _*_, _^_, _≤_, _<_}
+use Prim.Native.Nat.{ℕ, _+_, _-_, _^_, _≤_, _<_}
 use native.Mathlib.Nat.{le-refl}
 use native.Mathlib.Decide.{decLt}
 use native.Mathlib.Omega.{arith}
@@ -22,15 +22,16 @@ use Rattle.accepted.specs.Ways.{Under, itself, through}
 use Rattle.accepted.specs.WayLaws.{valid-nodes}
 use Rattle.accepted.specs.ValidatedLaws.{valid-fine}
 use Rattle.newick.specs.declared.Copied.the-variants.{Bytes}
-use Rattle.newick.specs.Newick.{Newick, join, wholeText, Frame, Mode, start, sub, name, made, colon, whole, point, tenths, hundredths, branch, done, Run, forbidden, reached, run}
-use Rattle.newick.specs.Numbering.{joins, tipsIn, nodesIn, times, nodeOf, pairsIn, pairsRead, reach, agesRead}
-use Rattle.newick.specs.Reading.{acceptable, Reading, faulty, says, judgedRun, reading}
-use Rattle.newick.specs.Copies.{Aged, aged, agesOf, datedAt, newickOf, treeText, CopyCall, copied, placed, copyJudged, copyCall, Closing}
+use Rattle.newick.specs.Newick.{Newick, join, wholeText, Frame, Mode, start, sub, name, made, colon, whole, point, tenths, hundredths, branch, done}
+use Rattle.newick.specs.Newick.{Run, forbidden, reached, run}
+use Rattle.newick.specs.Numbering.{joins, tipsIn, nodesIn, times, nodeOf, pairsRead, reach, agesRead}
+use Rattle.newick.specs.Reading.{acceptable, faulty, says, judgedRun, reading}
+use Rattle.newick.specs.Copies.{aged, agesOf, datedAt, newickOf, treeText, copied, placed, copyCall, Closing}
 use Rattle.newick.specs.RunLaws.{read-written}
 use Rattle.newick.specs.PlaceLaws.{done-pair, Begins, First, first-forbidden, unfinished}
 use Rattle.newick.specs.NumberingLaws.{pairs-length, Inside}
 use Rattle.newick.specs.DatedLaws.{Dated, dated-value}
-use Rattle.newick.specs.ReadingLaws.{occur, Accepts, accepted, accepts-named, Said, said}
+use Rattle.newick.specs.ReadingLaws.{Accepts, accepted, accepts-named, said}
 use Rattle.newick.specs.TreeLaws as TreeLaws
 use Rattle.newick.specs.ClosingLaws.{reach-le, own-dated, own-pairs}
 use Rattle.newick.specs.AgesLaws.{all-aged, age-few, ages-order, ages-ordered}
@@ -79,7 +80,9 @@ module _ (n : ℕ) (t : Tree) (v : Valid n t) (ages : List ℕ) (P : agesOf (t .
 
   -- and it is written wherever it fits
   pub copy-written : (out : List ℕ) → length (treeText (t .pairs) (t .root) ages) ≤ length out
-      → copyCall t out ≡ copied (Bytes (length (treeText (t .pairs) (t .root) ages))) (treeText (t .pairs) (t .root) ages ++ drop (length (treeText (t .pairs) (t .root) ages)) out)
+      → copyCall t out
+      ≡ copied (Bytes (length (treeText (t .pairs) (t .root) ages)))
+      (treeText (t .pairs) (t .root) ages ++ drop (length (treeText (t .pairs) (t .root) ages)) out)
   unfolding copyCall placed
   copy-written out h = rw (valid-fine n t v, P, le-ltb (length out) (length (treeText (t .pairs) (t .root) ages)) h)
 
@@ -109,11 +112,8 @@ module _ (n : ℕ) (t : Tree) (v : Valid n t) (ages : List ℕ) (P : agesOf (t .
         tips : tipsIn w ≡ tipsOf n
         tips = TreeLaws.whole-tips n t v ages
 
-        blank : List ℕ
-        blank = pairsIn (tipsIn w) w (replicate (nodesIn w + nodesIn w) noNode)
-
-        held : Dated (tipsOf n) blank (agesRead w) (tipsOf n) (reach w) w
-        held = subst (λ (m : ℕ). Dated m blank (agesRead w) m (reach w) w) tips (read-dated w (accepts-named w whole-accepts))
+        held : Dated (tipsOf n) (pairsRead w) (agesRead w) (tipsOf n) (reach w) w
+        held = subst (λ (m : ℕ). Dated m (pairsRead w) (agesRead w) m (reach w) w) tips (read-dated w (accepts-named w whole-accepts))
 
         inside : (i : ℕ) → i < n → Dec (i < tipsOf n) → Inside (tipsOf n) w i
         inside i I (yes h) = inl (TreeLaws.whole-occurs n t v ages i h)
@@ -121,7 +121,8 @@ module _ (n : ℕ) (t : Tree) (v : Valid n t) (ages : List ℕ) (P : agesOf (t .
 
         each : (i : ℕ) → i < n → getD (agesRead valueOf) i 0 + (top - reach w) ≡ getD ages i 0
         each i I =
-            let s = dated-shift (tipsOf n) blank (agesRead w) (t .pairs) ages (tipsOf n) (reach w) top w (le-refl _) low held own-held i (inside i I (decLt i (tipsOf n))) in
+            let s = dated-shift (tipsOf n) (pairsRead w) (agesRead w) (t .pairs) ages (tipsOf n) (reach w) top w (le-refl _) low held own-held
+            i (inside i I (decLt i (tipsOf n))) in
             let l = low in
             ap (λ (u : Newick). getD (agesRead u) i 0 + (top - reach w)) value-whole ∙ omega arith
 
@@ -132,23 +133,27 @@ ages-printed n t v h = all-aged (t .heights) (λ k K. let l = v .sized .heights 
 
 -- ---- a text that is read
 
+-- the last node is that of the outermost parenthesis
 root-number : (t : Newick) (a : Newick) (x : ℕ) (b : Newick) (y : ℕ) → t ≡ join a x b y → nodesIn t - 1 ≡ nodeOf (tipsIn t) t
 unfolding nodeOf joins
 root-number t a x b y e = rw e (omega arith)
 
+nodes-read : (t : Newick) → nodesOf (pairsRead t) ≡ nodesIn t
+unfolding pairsRead
+nodes-read t =
+    let slots = pairs-length (tipsIn t) t (replicate (nodesIn t + nodesIn t) noNode) ∙ length-replicate (nodesIn t + nodesIn t) noNode in
+    omega arith
+
 module _ (s : List ℕ) (t : Newick) (e : reading s ≡ says t) where
   -- "Written again from those thousandths, the bytes are the ones it was given"; the root is the last node
   pub read-again : treeText (pairsRead t) (nodesIn t - 1) (agesRead t) ≡ s
-  unfolding pairsRead
   read-again =
       let r = said s t e in
       let q = done-pair s t (r .ran) in
-      let l : length (pairsIn (tipsIn t) t (replicate (nodesIn t + nodesIn t) noNode)) ≡ nodesIn t + nodesIn t =
-      pairs-length (tipsIn t) t (replicate (nodesIn t + nodesIn t) noNode) ∙ length-replicate (nodesIn t + nodesIn t) noNode in
-      let m : nodesOf (pairsIn (tipsIn t) t (replicate (nodesIn t + nodesIn t) noNode)) ≡ nodesIn t = omega arith in
-      let d = dated-value (nodesIn t) (tipsIn t) (nodesIn t) (pairsIn (tipsIn t) t (replicate (nodesIn t + nodesIn t) noNode)) (agesRead t) (tipsIn t) (reach t) t
+      let value : datedAt (nodesIn t) (nodesIn t) (pairsRead t) (agesRead t) (nodeOf (tipsIn t) t) ≡ t =
+      dated-value (nodesIn t) (tipsIn t) (nodesIn t) (pairsRead t) (agesRead t) (tipsIn t) (reach t) t
       (omega arith) (le-refl _) (omega arith) (le-refl _) (read-dated t (accepts-named t (r .fine))) in
-      rw (m, root-number t (q .left) (q .upper) (q .right) (q .lower) (q .is)) (ap wholeText d ∙ read-written s t (r .ran))
+      rw (nodes-read t, root-number t (q .left) (q .upper) (q .right) (q .lower) (q .is)) (ap wholeText value ∙ read-written s t (r .ran))
 
   -- "ages in whole thousandths above the youngest tip"
   pub youngest : TipAt (tipsIn t) (agesRead t) 0

@@ -1,5 +1,5 @@
--- Laws of numbers of any size in decimal: by their last digit (`number-one`, `number-snoc`, `number-more`), and by their first (`number-headed`); for a 64-bit number it is the text that print
--- writes (`number-text`). And of a digit's byte (`digit-is`, `digit-back`, `digit-byte`). Assumes nothing.
+-- Laws of numbers of any size in decimal: by their last digit (`number-one`, `number-snoc`, `number-more`), and by their first (`number-headed`); for a 64-bit
+-- number it is the text that print writes (`number-text`). And of a digit's byte (`digit-is`, `digit-back`, `digit-byte`). Assumes nothing.
 use mathlib.Core.Path.{_≡_, refl, sym, ap, _∙_}
 use mathlib.Core.Bool.{Bool, true, false, cond}
 use mathlib.Core.List.{List, [], _∷_, _++_}

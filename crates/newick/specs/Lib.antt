@@ -1,5 +1,5 @@
--- The definitions that the contracts of the writer and the reader cite (Newick, Numbering, Reading, Copies), rows of them, and the theorems on copies (CopyLaws) with
--- the laws that they come from.
+-- The definitions that the contracts of the writer and the reader cite (Newick, Numbering, Reading, Copies), rows of them (Rows), and the theorems on copies
+-- (CopyLaws) with the laws that they come from.
 pub mod Newick
 pub mod Numbering
 pub mod Reading

@@ -1,5 +1,6 @@
 -- The place of a refused text: where the spelling forbids a byte, some well-spelled text begins with what stands before it, and none with that byte too
--- (`first-forbidden`); where it forbids none, some well-spelled text begins with the whole (`unfinished`). Assumes nothing.
+-- (`first-forbidden`); where it forbids none, some well-spelled text begins with the whole (`unfinished`). For that, every place that a reader comes to
+-- (`step-keeps`, `run-fine`) can be completed (`completed`). A text that is spelled to its end is of two subtrees (`done-pair`). Assumes nothing.
 use mathlib.Core.Path.{_≡_, refl, sym, ap, _∙_, subst}
 use mathlib.Core.Bool.{Bool, true, false}
 use mathlib.Core.List.{List, [], _∷_, _++_, append-assoc}
@@ -8,8 +9,9 @@ use native.Mathlib.Omega.{arith}
 use lib.Dec.{eqb}
 use borrow.Author.Tests.{ne-eqb}
 use Rattle.text.specs.Rules.{isDecimal}
-use Rattle.newick.specs.Newick.{Newick, tip, join, text, wholeText, Frame, first, second, Mode, start, sub, name, made, colon, whole, point, tenths, hundredths, branch, done}
-use Rattle.newick.specs.Newick.{Step, stuck, to, on, onDigit, orElse, onMore, step, Run, forbidden, reached, run}
+use Rattle.newick.specs.Newick.{Newick, tip, join, text, wholeText, Frame, first, second}
+use Rattle.newick.specs.Newick.{Mode, start, sub, name, made, colon, whole, point, tenths, hundredths, branch, done}
+use Rattle.newick.specs.Newick.{Step, stuck, to, on, onDigit, orElse, onMore, step, forbidden, reached, run}
 use Rattle.newick.specs.DecimalLaws.{number-headed}
 use Rattle.newick.specs.RunLaws.{run-step, written-read, read-written}
 
@@ -21,6 +23,7 @@ pub record Completed (m : Mode) (fs : List Frame) : Type 0 where
   pub value : Newick
   pub ends : run m fs rest ≡ reached (done value) []
 
+-- one byte before such a rest
 before : (m : Mode) (fs : List Frame) (b : ℕ) (m′ : Mode) (fs′ : List Frame) → step m fs b ≡ to m′ fs′ → Completed m′ fs′ → Completed m fs
 before m fs b m′ fs′ e c = record { rest = b ∷ c .rest; value = c .value; ends = run-step m fs b (c .rest) m′ fs′ e ∙ c .ends }
 
@@ -216,28 +219,30 @@ forbidden-stops (b ∷ s) m fs r h e = go (step m fs b) refl (step-keeps m fs b 
           stops = λ l v u. forbidden-clash (b ∷ l) (done v) [] (sym (run-stuck m fs b l q) ∙ u);
         }
     go (to m′ fs′) q k next e =
-        let P = next m′ fs′ k e in
+        let later = next m′ fs′ k e in
+        let on = later .goes-on in
         record {
-          read = b ∷ P .read;
-          byte = P .byte;
-          rest = P .rest;
-          is = P .is;
-          splits = ap (λ (l : List ℕ). b ∷ l) (P .splits);
-          goes-on = (P .goes-on .0, P .goes-on .1, run-step m fs b (P .read ++ P .goes-on .0) m′ fs′ q ∙ P .goes-on .2);
-          stops = λ l v u. P .stops l v (sym (run-step m fs b (P .read ++ (P .byte ∷ l)) m′ fs′ q) ∙ u);
+          read = b ∷ later .read;
+          byte = later .byte;
+          rest = later .rest;
+          is = later .is;
+          splits = ap (λ (l : List ℕ). b ∷ l) (later .splits);
+          goes-on = (on .0, on .1, run-step m fs b (later .read ++ on .0) m′ fs′ q ∙ on .2);
+          stops = λ l v u. later .stops l v (sym (run-step m fs b (later .read ++ (later .byte ∷ l)) m′ fs′ q) ∙ u);
         }
 
--- ---- a text of the form is of two subtrees
+-- ---- a text that is spelled to its end is of two subtrees
 
 not-tip : (s : List ℕ) (k : ℕ) → run start [] s ≡ reached (done (tip k)) [] → ⊥
 unfolding wholeText text step
 not-tip s k e =
-    let r = number-headed k in
-    let h : r .0 < 10 = r .2 in
-    let f : s ≡ (48 + r .0) ∷ (r .1 ++ (59 ∷ [])) = sym (read-written s (tip k) e) ∙ ap (λ (l : List ℕ). l ++ (59 ∷ [])) (r .3) in
-    let g : step start [] (48 + r .0) ≡ stuck = rw (ne-eqb (48 + r .0) 40 (λ z. omega arith)) in
-    forbidden-clash ((48 + r .0) ∷ (r .1 ++ (59 ∷ []))) (done (tip k)) []
-    (sym (run-stuck start [] (48 + r .0) (r .1 ++ (59 ∷ [])) g) ∙ ap (run start []) (sym f) ∙ e)
+    let number = number-headed k in
+    let digit : ℕ = 48 + number .0 in
+    let rest : List ℕ = number .1 ++ (59 ∷ []) in
+    let low : number .0 < 10 = number .2 in
+    let is : s ≡ digit ∷ rest = sym (read-written s (tip k) e) ∙ ap (λ (l : List ℕ). l ++ (59 ∷ [])) (number .3) in
+    let turned : step start [] digit ≡ stuck = rw (ne-eqb digit 40 (λ z. omega arith)) in
+    forbidden-clash (digit ∷ rest) (done (tip k)) [] (sym (run-stuck start [] digit rest turned) ∙ ap (run start []) (sym is) ∙ e)
 
 pub record Pair (t : Newick) : Type 0 where
   pub left : Newick
@@ -250,9 +255,10 @@ pub done-pair : (s : List ℕ) (t : Newick) → run start [] s ≡ reached (done
 done-pair s (tip k) e = absurd (not-tip s k e)
 done-pair s (join a x b y) e = record { left = a; upper = x; right = b; lower = y; is = refl }
 
--- ---- the theorems
+-- ---- how well-spelled texts begin
 
-run-append : (s r : List ℕ) (m : Mode) (fs : List Frame) (m′ : Mode) (fs′ : List Frame) → run m fs s ≡ reached m′ fs′ → run m fs (s ++ r) ≡ run m′ fs′ r
+run-append : (s r : List ℕ) (m : Mode) (fs : List Frame) (m′ : Mode) (fs′ : List Frame) → run m fs s ≡ reached m′ fs′
+    → run m fs (s ++ r) ≡ run m′ fs′ r
 unfolding run
 run-append [] r m fs m′ fs′ e = let p : m ≡ m′ = cc in let q : fs ≡ fs′ = cc in λ i. run (p i) (q i) r
 run-append (b ∷ s) r m fs m′ fs′ e = go (step m fs b) (λ n gs. run-append s r n gs m′ fs′) e
@@ -263,7 +269,7 @@ run-append (b ∷ s) r m fs m′ fs′ e = go (step m fs b) (λ n gs. run-append
     go stuck next e = absurd (forbidden-clash (b ∷ s) m′ fs′ e)
     go (to n gs) next e = next n gs e
 
--- some well-spelled text begins so: that of a value, which a text of the form has two subtrees of
+-- some well-spelled text begins so, which is that of two subtrees
 abbrev pub Begins : List ℕ → Type 0
 Begins s = (rest : List ℕ) × (a : Newick) × (x : ℕ) × (b : Newick) × (y : ℕ) × (wholeText (join a x b y) ≡ s ++ rest)
 
@@ -278,7 +284,8 @@ pub record First (s read : List ℕ) (byte : ℕ) (rest : List ℕ) : Type 0 whe
   pub begins : Begins read
   pub stops : Begins (read ++ (byte ∷ [])) → ⊥
 
-pub first-forbidden : (s r : List ℕ) → run start [] s ≡ forbidden r → (read : List ℕ) × (byte : ℕ) × (rest : List ℕ) × (r ≡ byte ∷ rest) × First s read byte rest
+pub first-forbidden : (s r : List ℕ) → run start [] s ≡ forbidden r
+    → (read : List ℕ) × (byte : ℕ) × (rest : List ℕ) × (r ≡ byte ∷ rest) × First s read byte rest
 first-forbidden s r e =
     let p = forbidden-stops s start [] r refl e in
     let g = p .goes-on in (

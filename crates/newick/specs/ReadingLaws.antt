@@ -1,5 +1,5 @@
 -- Laws of what a text says: what it is to be acceptable, as facts (`accepts`, `accepted`, `not-accepted`), with tips that are each named once
--- (`accepts-named`); and a text that says a value is spelled to its end as that value, which is acceptable (`said`). Assumes nothing.
+-- (`occur-named`, `accepts-named`); and a text that says a value is spelled to its end as that value, which is acceptable (`said`). Assumes nothing.
 use mathlib.Core.Path.{_≡_, refl, ap, _∙_, subst}
 use mathlib.Core.Bool.{Bool, true, false, cond, _&&_, false≢true}
 use mathlib.Core.List.{List, [], _∷_}
@@ -10,9 +10,9 @@ use lib.ListN.{length}
 use borrow.Author.Tests.{lt-ltb, le-leb, ltb-true, leb-true}
 use Rattle.tree.specs.Bounded.{every}
 use Rattle.tree.specs.BoundedLaws.{every-at}
-use Rattle.newick.specs.Newick.{Newick, Frame, Mode, start, sub, name, made, colon, whole, point, tenths, hundredths, branch, done, Run, forbidden, reached, run}
+use Rattle.newick.specs.Newick.{Newick, start, sub, name, made, colon, whole, point, tenths, hundredths, branch, done, Run, forbidden, reached, run}
 use Rattle.newick.specs.Numbering.{tipsIn, times, reach}
-use Rattle.newick.specs.Reading.{acceptable, Reading, faulty, says, judgedRun, reading}
+use Rattle.newick.specs.Reading.{acceptable, faulty, says, judgedRun, reading}
 use Rattle.newick.specs.NumberingLaws.{Named}
 use Rattle.newick.specs.NamedLaws.{all-named}
 

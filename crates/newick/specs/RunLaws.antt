@@ -1,5 +1,6 @@
 -- What is written is read, and what is read was written so: the spelling takes the text of every value that is no single tip, as that value (`written-read`),
--- and a text that it takes as a value is that value's (`read-written`), since a reader has behind it the text of what it holds (`step-leads`). Assumes nothing.
+-- and a text that it takes as a value is that value's (`read-written`), since a reader has behind it the text of what it holds (`step-leads`). The bytes 40 and
+-- 41 are the parentheses, 44 the comma, 46 the point, 58 the colon, 59 the semicolon, and 48 the digit 0. Assumes nothing.
 use mathlib.Core.Path.{_≡_, refl, sym, ap, _∙_, subst}
 use mathlib.Core.Bool.{Bool, true, false}
 use mathlib.Core.List.{List, [], _∷_, _++_, append-assoc, append-nil}
@@ -10,9 +11,10 @@ use native.Mathlib.Omega.{arith}
 use lib.Dec.{eqb}
 use borrow.Author.Tests.{ne-eqb, eqb-true, eqb-false}
 use Rattle.text.specs.Rules.{isDecimal}
-use Rattle.newick.specs.Newick.{Newick, tip, join, numberText, lengthText, text, wholeText, Frame, first, second, Mode, start, sub, name, made, colon, whole, point, tenths, hundredths, branch, done}
+use Rattle.newick.specs.Newick.{Newick, tip, join, numberText, lengthText, text, wholeText, Frame, first, second}
+use Rattle.newick.specs.Newick.{Mode, start, sub, name, made, colon, whole, point, tenths, hundredths, branch, done}
 use Rattle.newick.specs.Newick.{Step, stuck, to, on, onDigit, orElse, onMore, step, Run, forbidden, reached, run}
-use Rattle.newick.specs.DecimalLaws.{digit-is, digit-back, digit-byte, number-one, number-snoc, number-more}
+use Rattle.newick.specs.DecimalLaws.{digit-is, digit-back, digit-byte, number-one, number-more}
 
 -- ---- one byte
 
@@ -20,8 +22,10 @@ pub run-step : (m : Mode) (fs : List Frame) (b : ℕ) (s : List ℕ) (m′ : Mod
 unfolding run
 run-step m fs b s m′ fs′ e = rw (e, run)
 
-on-digit : (d : ℕ) (f : ℕ → Mode) (fs : List Frame) → d < 10 → onDigit (48 + d) f fs ≡ to (f d) fs
-on-digit d f fs h = rw (digit-is d h, digit-back d)
+-- a digit, where every digit may stand
+digit-run : (m : Mode) (g : ℕ → Mode) (fs : List Frame) (d : ℕ) (rest : List ℕ) → step m fs (48 + d) ≡ onDigit (48 + d) g fs → d < 10
+    → run m fs ((48 + d) ∷ rest) ≡ run (g d) fs rest
+digit-run m g fs d rest e h = run-step m fs (48 + d) rest (g d) fs (e ∙ rw (digit-is d h, digit-back d))
 
 -- ---- a number
 
@@ -30,21 +34,31 @@ record Number (m : Mode) (g : ℕ → Mode) (fs : List Frame) : Type 0 where
   begin : (d : ℕ) → d < 10 → step m fs (48 + d) ≡ to (g d) fs
   more : (v d : ℕ) → 1 ≤ v → d < 10 → step (g v) fs (48 + d) ≡ to (g (v * 10 + d)) fs
 
-number-run : (m : Mode) (g : ℕ → Mode) (fs : List Frame) → Number m g fs → (k n : ℕ) → n < k → (rest : List ℕ)
-    → run m fs (numberText n ++ rest) ≡ run (g n) fs rest
-number-run m g fs num zero n h rest = absurd (omega arith)
-number-run m g fs num (suc k) n h rest = go (decLt n 10) (number-run m g fs num k (n / 10))
-  where
-    go : Dec (n < 10) → (n / 10 < k → (r : List ℕ) → run m fs (numberText (n / 10) ++ r) ≡ run (g (n / 10)) fs r) → run m fs (numberText n ++ rest) ≡ run (g n) fs rest
-    go (yes p) before = ap (λ (l : List ℕ). run m fs (l ++ rest)) (number-one n p) ∙ run-step m fs (48 + n) rest (g n) fs (num .begin n p)
-    go (no p) before =
-        let d = n % 10 in
-        let e : n / 10 * 10 + d ≡ n = omega arith in
-        ap (λ (l : List ℕ). run m fs (l ++ rest)) (number-snoc n (omega arith))
-        ∙ ap (run m fs) (append-assoc (numberText (n / 10)) ((48 + d) ∷ []) rest)
-        ∙ before (omega arith) ((48 + d) ∷ rest)
-        ∙ run-step (g (n / 10)) fs (48 + d) rest (g (n / 10 * 10 + d)) fs (num .more (n / 10) d (omega arith) (omega arith))
-        ∙ ap (λ (v : ℕ). run (g v) fs rest) e
+module _ (m : Mode) (g : ℕ → Mode) (fs : List Frame) (number : Number m g fs) where
+  abbrev Takes : ℕ → Type 0
+  Takes n = (rest : List ℕ) → run m fs (numberText n ++ rest) ≡ run (g n) fs rest
+
+  takes-one : (n : ℕ) → n < 10 → Takes n
+  takes-one n h rest = ap (λ (l : List ℕ). run m fs (l ++ rest)) (number-one n h) ∙ run-step m fs (48 + n) rest (g n) fs (number .begin n h)
+
+  takes-more : (v d : ℕ) → 1 ≤ v → d < 10 → Takes v → Takes (v * 10 + d)
+  takes-more v d p h before rest =
+      ap (λ (l : List ℕ). run m fs (l ++ rest)) (number-more v d p h)
+      ∙ ap (run m fs) (append-assoc (numberText v) ((48 + d) ∷ []) rest)
+      ∙ before ((48 + d) ∷ rest)
+      ∙ run-step (g v) fs (48 + d) rest (g (v * 10 + d)) fs (number .more v d p h)
+
+  takes-below : (k n : ℕ) → n < k → Takes n
+  takes-below zero n h = absurd (omega arith)
+  takes-below (suc k) n h = elim (decLt n 10) [
+    | yes p ↦ takes-one n p
+    | no p ↦
+        let e : n / 10 * 10 + n % 10 ≡ n = omega arith in
+        subst Takes e (takes-more (n / 10) (n % 10) (omega arith) (omega arith) (takes-below k (n / 10) (omega arith)))
+  ]
+
+  number-run : (n : ℕ) → Takes n
+  number-run n = takes-below (suc n) n (le-refl _)
 
 name-number : (fs : List Frame) → Number sub name fs
 unfolding step
@@ -61,46 +75,35 @@ whole-number t fs = record {
 }
 
 -- ---- a length
+
 length-run : (t : Newick) (fs : List Frame) (x : ℕ) (rest : List ℕ) → run (colon t) fs (lengthText x ++ rest) ≡ run (branch t x) fs rest
 unfolding step
 length-run t fs x rest =
+    let w = x / 1000 in
     let a = x / 100 % 10 in
     let b = x / 10 % 10 in
-    let d = x % 10 in
-    let e : ((x / 1000 * 10 + a) * 10 + b) * 10 + d ≡ x = omega arith in
-    let A : a < 10 = omega arith in
-    let B : b < 10 = omega arith in
-    let D : d < 10 = omega arith in
-    ap (run (colon t) fs) (append-assoc (numberText (x / 1000)) (46 ∷ (48 + a) ∷ (48 + b) ∷ (48 + d) ∷ []) rest)
-    ∙ number-run (colon t) (whole t) fs (whole-number t fs) (suc (x / 1000)) (x / 1000) (le-refl _) (46 ∷ (48 + a) ∷ (48 + b) ∷ (48 + d) ∷ rest)
-    ∙ run-step (whole t (x / 1000)) fs 46 ((48 + a) ∷ (48 + b) ∷ (48 + d) ∷ rest) (point t (x / 1000)) fs refl
-    ∙ run-step (point t (x / 1000)) fs (48 + a) ((48 + b) ∷ (48 + d) ∷ rest) (tenths t (x / 1000 * 10 + a)) fs (on-digit a (λ c. tenths t (x / 1000 * 10 + c)) fs A)
-    ∙ run-step (tenths t (x / 1000 * 10 + a)) fs (48 + b) ((48 + d) ∷ rest) (hundredths t ((x / 1000 * 10 + a) * 10 + b)) fs (on-digit b (λ c. hundredths t ((x / 1000 * 10 + a) * 10 + c)) fs B)
-    ∙ run-step (hundredths t ((x / 1000 * 10 + a) * 10 + b)) fs (48 + d) rest (branch t (((x / 1000 * 10 + a) * 10 + b) * 10 + d)) fs (on-digit d (λ c. branch t (((x / 1000 * 10 + a) * 10 + b) * 10 + c)) fs D)
-    ∙ ap (λ (y : ℕ). run (branch t y) fs rest) e
+    let c = x % 10 in
+    let all : ((w * 10 + a) * 10 + b) * 10 + c ≡ x = omega arith in
+    ap (run (colon t) fs) (append-assoc (numberText w) (46 ∷ (48 + a) ∷ (48 + b) ∷ (48 + c) ∷ []) rest)
+    ∙ number-run (colon t) (whole t) fs (whole-number t fs) w (46 ∷ (48 + a) ∷ (48 + b) ∷ (48 + c) ∷ rest)
+    ∙ run-step (whole t w) fs 46 ((48 + a) ∷ (48 + b) ∷ (48 + c) ∷ rest) (point t w) fs refl
+    ∙ digit-run (point t w) (λ d. tenths t (w * 10 + d)) fs a ((48 + b) ∷ (48 + c) ∷ rest) refl (omega arith)
+    ∙ digit-run (tenths t (w * 10 + a)) (λ d. hundredths t ((w * 10 + a) * 10 + d)) fs b ((48 + c) ∷ rest) refl (omega arith)
+    ∙ digit-run (hundredths t ((w * 10 + a) * 10 + b)) (λ d. branch t (((w * 10 + a) * 10 + b) * 10 + d)) fs c rest refl (omega arith)
+    ∙ ap (λ (y : ℕ). run (branch t y) fs rest) all
 
 -- ---- a subtree and its colon, below an open parenthesis
+
 abbrev Reads : Newick → Type 0
 Reads t = (f : Frame) (fs : List Frame) (rest : List ℕ) → run sub (f ∷ fs) (text t ++ (58 ∷ rest)) ≡ run (colon t) (f ∷ fs) rest
 
+-- what stands behind the opening parenthesis of two subtrees
 abbrev inside : Newick → ℕ → Newick → ℕ → List ℕ → List ℕ
 inside a x b y rest = text a ++ (58 ∷ lengthText x ++ (44 ∷ text b ++ (58 ∷ lengthText y ++ (41 ∷ rest))))
 
-glue : (a x b y r : List ℕ) → (40 ∷ a ++ (58 ∷ x ++ (44 ∷ b ++ (58 ∷ y ++ (41 ∷ []))))) ++ r ≡ 40 ∷ a ++ (58 ∷ x ++ (44 ∷ b ++ (58 ∷ y ++ (41 ∷ r))))
+glue : (a x b y r : List ℕ)
+    → (40 ∷ a ++ (58 ∷ x ++ (44 ∷ b ++ (58 ∷ y ++ (41 ∷ []))))) ++ r ≡ 40 ∷ a ++ (58 ∷ x ++ (44 ∷ b ++ (58 ∷ y ++ (41 ∷ r))))
 glue a x b y r = simp append-assoc
-
-glue-back : (h a x b y : List ℕ) → h ++ (40 ∷ a ++ (58 ∷ x ++ (44 ∷ b ++ (58 ∷ y ++ (41 ∷ []))))) ≡ ((h ++ (40 ∷ a ++ (58 ∷ x ++ (44 ∷ [])))) ++ (b ++ (58 ∷ y))) ++ (41 ∷ [])
-glue-back h a x b y = sym (
-    append-assoc (h ++ P) Q (41 ∷ []) ∙ append-assoc h P (Q ++ (41 ∷ []))
-    ∙ ap (λ (l : List ℕ). h ++ (40 ∷ l)) (append-assoc a (58 ∷ x ++ (44 ∷ [])) (Q ++ (41 ∷ [])))
-    ∙ ap (λ (l : List ℕ). h ++ (40 ∷ a ++ (58 ∷ l))) (append-assoc x (44 ∷ []) (Q ++ (41 ∷ [])))
-    ∙ ap (λ (l : List ℕ). h ++ (40 ∷ a ++ (58 ∷ x ++ (44 ∷ l)))) (append-assoc b (58 ∷ y) (41 ∷ [])))
-  where
-    P : List ℕ
-    P = 40 ∷ a ++ (58 ∷ x ++ (44 ∷ []))
-
-    Q : List ℕ
-    Q = b ++ (58 ∷ y)
 
 join-text : (a : Newick) (x : ℕ) (b : Newick) (y : ℕ) (rest : List ℕ) → text (join a x b y) ++ rest ≡ 40 ∷ inside a x b y rest
 unfolding text
@@ -109,18 +112,18 @@ join-text a x b y rest = glue (text a) (lengthText x) (text b) (lengthText y) re
 inside-run : (a : Newick) (x : ℕ) (b : Newick) (y : ℕ) (fs : List Frame) (rest : List ℕ) → Reads a → Reads b
     → run sub (first ∷ fs) (inside a x b y rest) ≡ run (made (join a x b y)) fs rest
 unfolding step
-inside-run a x b y fs rest A B =
-    A first fs (lengthText x ++ (44 ∷ text b ++ (58 ∷ lengthText y ++ (41 ∷ rest))))
+inside-run a x b y fs rest reads-a reads-b =
+    reads-a first fs (lengthText x ++ (44 ∷ text b ++ (58 ∷ lengthText y ++ (41 ∷ rest))))
     ∙ length-run a (first ∷ fs) x (44 ∷ text b ++ (58 ∷ lengthText y ++ (41 ∷ rest)))
     ∙ run-step (branch a x) (first ∷ fs) 44 (text b ++ (58 ∷ lengthText y ++ (41 ∷ rest))) sub (second a x ∷ fs) refl
-    ∙ B (second a x) fs (lengthText y ++ (41 ∷ rest))
+    ∙ reads-b (second a x) fs (lengthText y ++ (41 ∷ rest))
     ∙ length-run b (second a x ∷ fs) y (41 ∷ rest)
     ∙ run-step (branch b y) (second a x ∷ fs) 41 rest (made (join a x b y)) fs refl
 
 sub-run : (t : Newick) → Reads t
 unfolding step text
 sub-run (tip k) f fs rest =
-    number-run sub name (f ∷ fs) (name-number (f ∷ fs)) (suc k) k (le-refl _) (58 ∷ rest)
+    number-run sub name (f ∷ fs) (name-number (f ∷ fs)) k (58 ∷ rest)
     ∙ run-step (name k) (f ∷ fs) 58 rest (colon (tip k)) (f ∷ fs) refl
 sub-run (join a x b y) f fs rest =
     ap (run sub (f ∷ fs)) (join-text a x b y (58 ∷ rest))
@@ -138,11 +141,14 @@ written-read a x b y =
     ∙ run-step (made (join a x b y)) [] 59 [] (done (join a x b y)) [] refl
 
 -- ---- the text that a reader has behind it
+
+-- up to where it stands, of what is open: each parenthesis, with its first subtree and its length if they are read
 unfoldable pub behind : List Frame → List ℕ
 behind [] = []
 behind (first ∷ fs) = behind fs ++ (40 ∷ [])
 behind (second a x ∷ fs) = behind fs ++ (40 ∷ text a ++ (58 ∷ lengthText x ++ (44 ∷ [])))
 
+-- and of the subtree in which it stands
 unfoldable pub part : Mode → List ℕ
 part start = []
 part sub = []
@@ -156,6 +162,7 @@ part (hundredths t w) = text t ++ (58 ∷ numberText (w / 100) ++ (46 ∷ (48 + 
 part (branch t x) = text t ++ (58 ∷ lengthText x)
 part (done t) = text t ++ (59 ∷ [])
 
+-- both: the whole text that leads to where it stands
 abbrev pub spelled : Mode → List Frame → List ℕ
 spelled m fs = behind fs ++ part m
 
@@ -172,6 +179,17 @@ or-leads : (t : Bool) (a b : Step) (l : List ℕ) → (t ≡ true → Leads a l)
 or-leads true a b l h k = h refl
 or-leads false a b l h k = k refl
 
+-- a sign c, alone or beside other bytes
+module _ (b c : ℕ) (m : Mode) (fs : List Frame) (l : List ℕ) (h : spelled m fs ≡ l ++ (c ∷ [])) where
+  sign-is : eqb b c ≡ true → spelled m fs ≡ l ++ (b ∷ [])
+  sign-is e = rw (eqb-true b c e) h
+
+  sign-leads : Leads (on (eqb b c) m fs) (l ++ (b ∷ []))
+  sign-leads = on-leads (eqb b c) m fs (l ++ (b ∷ [])) sign-is
+
+  sign-or : (other : Step) → Leads other (l ++ (b ∷ [])) → Leads (orElse (eqb b c) (to m fs) other) (l ++ (b ∷ []))
+  sign-or other k = or-leads (eqb b c) (to m fs) other (l ++ (b ∷ [])) sign-is (λ e. k)
+
 -- a digit d behind a mode m whose text it continues
 digit-leads : (b : ℕ) (g : ℕ → Mode) (m : Mode) (fs : List Frame) → ((d : ℕ) → d < 10 → part (g d) ≡ part m ++ ((48 + d) ∷ []))
     → Leads (onDigit b g fs) (spelled m fs ++ (b ∷ []))
@@ -181,46 +199,60 @@ digit-leads b g m fs h = on-leads (isDecimal b) (g (b - 48)) fs (spelled m fs ++
     ∙ ap (λ (c : ℕ). behind fs ++ (part m ++ (c ∷ []))) (sym (p .1))
     ∙ sym (append-assoc (behind fs) (part m) (b ∷ []))
 
-more-leads : (v b : ℕ) (g : ℕ → Mode) (m : Mode) (fs : List Frame) → ((d : ℕ) → 1 ≤ v → d < 10 → part (g (v * 10 + d)) ≡ part m ++ ((48 + d) ∷ [])) → Leads (onMore v b g fs) (spelled m fs ++ (b ∷ []))
+-- and one behind a number v
+more-leads : (v b : ℕ) (g : ℕ → Mode) (m : Mode) (fs : List Frame)
+    → ((d : ℕ) → 1 ≤ v → d < 10 → part (g (v * 10 + d)) ≡ part m ++ ((48 + d) ∷ [])) → Leads (onMore v b g fs) (spelled m fs ++ (b ∷ []))
 more-leads v b g m fs h = or-leads (eqb v 0) stuck (onDigit b (λ d. g (v * 10 + d)) fs) (spelled m fs ++ (b ∷ [])) (λ e. tt)
     (λ e. let n : v ≡ 0 → ⊥ = eqb-false v 0 e in digit-leads b (λ d. g (v * 10 + d)) m fs (λ d p. h d (omega arith) p))
 
-snoc : (t : Newick) (s r : List ℕ) → r ≡ s → text t ++ (58 ∷ r) ≡ text t ++ (58 ∷ s)
-snoc t s r e = ap (λ (l : List ℕ). text t ++ (58 ∷ l)) e
+-- an open parenthesis with its first subtree, and what comes behind
+opened : (h a x r : List ℕ) → (h ++ (40 ∷ a ++ (58 ∷ x ++ (44 ∷ [])))) ++ r ≡ h ++ (40 ∷ a ++ (58 ∷ x ++ (44 ∷ r)))
+opened h a x r =
+    append-assoc h (40 ∷ a ++ (58 ∷ x ++ (44 ∷ []))) r
+    ∙ ap (λ (l : List ℕ). h ++ (40 ∷ l)) (append-assoc a (58 ∷ x ++ (44 ∷ [])) r)
+    ∙ ap (λ (l : List ℕ). h ++ (40 ∷ a ++ (58 ∷ l))) (append-assoc x (44 ∷ []) r)
+
+-- two subtrees, of which the second was just read, closed
+closed : (fs : List Frame) (a : Newick) (x : ℕ) (b : Newick) (y : ℕ)
+    → spelled (branch b y) (second a x ∷ fs) ++ (41 ∷ []) ≡ spelled (made (join a x b y)) fs
+unfolding part behind text
+closed fs a x b y =
+    append-assoc (behind (second a x ∷ fs)) (text b ++ (58 ∷ lengthText y)) (41 ∷ [])
+    ∙ ap (λ (l : List ℕ). behind (second a x ∷ fs) ++ l) (append-assoc (text b) (58 ∷ lengthText y) (41 ∷ []))
+    ∙ opened (behind fs) (text a) (lengthText x) (text b ++ (58 ∷ lengthText y ++ (41 ∷ [])))
 
 step-leads : (m : Mode) (fs : List Frame) (b : ℕ) → Leads (step m fs b) (spelled m fs ++ (b ∷ []))
 unfolding step part behind text
-step-leads start fs b = on-leads (eqb b 40) sub (first ∷ fs) _ λ e. rw (eqb-true b 40 e) (simp append-nil)
-step-leads sub fs b = or-leads (eqb b 40) (to sub (first ∷ fs)) (onDigit b name fs) _
-    (λ e. rw (eqb-true b 40 e) (simp append-nil))
-    (λ e. digit-leads b name sub fs λ d p. number-one d p)
-step-leads (name k) fs b = or-leads (eqb b 58) (to (colon (tip k)) fs) (onMore k b name fs) _
-    (λ e. rw (eqb-true b 58 e) (simp append-assoc))
-    (λ e. more-leads k b name (name k) fs λ d z p. number-more k d z p)
-step-leads (made t) [] b = on-leads (eqb b 59) (done t) [] _ λ e. rw (eqb-true b 59 e)
-step-leads (made t) (f ∷ fs) b = on-leads (eqb b 58) (colon t) (f ∷ fs) _ λ e. rw (eqb-true b 58 e) (simp append-assoc)
+step-leads start fs b = sign-leads b 40 sub (first ∷ fs) (spelled start fs) (simp append-nil)
+step-leads sub fs b = sign-or b 40 sub (first ∷ fs) (spelled sub fs) (simp append-nil) (onDigit b name fs) (digit-leads b name sub fs number-one)
+step-leads (name k) fs b =
+    sign-or b 58 (colon (tip k)) fs (spelled (name k) fs) (simp append-assoc) (onMore k b name fs)
+    (more-leads k b name (name k) fs (number-more k))
+step-leads (made t) [] b = sign-leads b 59 (done t) [] (spelled (made t) []) refl
+step-leads (made t) (f ∷ fs) b = sign-leads b 58 (colon t) (f ∷ fs) (spelled (made t) (f ∷ fs)) (simp append-assoc)
 step-leads (colon t) fs b = digit-leads b (whole t) (colon t) fs λ d p. rw (number-one d p) (simp append-assoc)
-step-leads (whole t w) fs b = or-leads (eqb b 46) (to (point t w) fs) (onMore w b (whole t) fs) _
-    (λ e. rw (eqb-true b 46 e) (simp append-assoc))
-    (λ e. more-leads w b (whole t) (whole t w) fs λ d z p. rw (number-more w d z p) (simp append-assoc))
+step-leads (whole t w) fs b =
+    sign-or b 46 (point t w) fs (spelled (whole t w) fs) (simp append-assoc) (onMore w b (whole t) fs)
+    (more-leads w b (whole t) (whole t w) fs λ d z p. rw (number-more w d z p) (simp append-assoc))
 step-leads (point t w) fs b = digit-leads b (λ d. tenths t (w * 10 + d)) (point t w) fs λ d p.
-    let q : (w * 10 + d) / 10 ≡ w = omega arith in
-    let r : (w * 10 + d) % 10 ≡ d = omega arith in
-    rw (q, r) (simp append-assoc)
+    let before : (w * 10 + d) / 10 ≡ w = omega arith in
+    let last : (w * 10 + d) % 10 ≡ d = omega arith in
+    rw (before, last) (simp append-assoc)
 step-leads (tenths t w) fs b = digit-leads b (λ d. hundredths t (w * 10 + d)) (tenths t w) fs λ d p.
-    let q : (w * 10 + d) / 100 ≡ w / 10 = omega arith in
-    let s : (w * 10 + d) / 10 % 10 ≡ w % 10 = omega arith in
-    let r : (w * 10 + d) % 10 ≡ d = omega arith in
-    rw (q, s, r) (simp append-assoc)
+    let before : (w * 10 + d) / 100 ≡ w / 10 = omega arith in
+    let tenth : (w * 10 + d) / 10 % 10 ≡ w % 10 = omega arith in
+    let last : (w * 10 + d) % 10 ≡ d = omega arith in
+    rw (before, tenth, last) (simp append-assoc)
 step-leads (hundredths t w) fs b = digit-leads b (λ d. branch t (w * 10 + d)) (hundredths t w) fs λ d p.
-    let q : (w * 10 + d) / 1000 ≡ w / 100 = omega arith in
-    let u : (w * 10 + d) / 100 % 10 ≡ w / 10 % 10 = omega arith in
-    let s : (w * 10 + d) / 10 % 10 ≡ w % 10 = omega arith in
-    let r : (w * 10 + d) % 10 ≡ d = omega arith in
-    rw (q, u, s, r) (simp append-assoc)
+    let before : (w * 10 + d) / 1000 ≡ w / 100 = omega arith in
+    let tenth : (w * 10 + d) / 100 % 10 ≡ w / 10 % 10 = omega arith in
+    let hundredth : (w * 10 + d) / 10 % 10 ≡ w % 10 = omega arith in
+    let last : (w * 10 + d) % 10 ≡ d = omega arith in
+    rw (before, tenth, hundredth, last) (simp append-assoc)
 step-leads (branch t x) [] b = tt
-step-leads (branch t x) (first ∷ fs) b = on-leads (eqb b 44) sub (second t x ∷ fs) _ λ e. rw (eqb-true b 44 e) (simp (append-assoc, append-nil))
-step-leads (branch t x) (second a y ∷ fs) b = on-leads (eqb b 41) (made (join a y t x)) fs _ λ e. rw (eqb-true b 41 e) (glue-back (behind fs) (text a) (lengthText y) (text t) (lengthText x))
+step-leads (branch t x) (first ∷ fs) b = sign-leads b 44 sub (second t x ∷ fs) (spelled (branch t x) (first ∷ fs)) (simp (append-assoc, append-nil))
+step-leads (branch t x) (second a y ∷ fs) b =
+    sign-leads b 41 (made (join a y t x)) fs (spelled (branch t x) (second a y ∷ fs)) (sym (closed fs a y t x))
 step-leads (done t) fs b = tt
 
 -- where a run ends, the text behind the reader is what it had behind it and what it read
@@ -235,8 +267,9 @@ run-leads m fs (b ∷ s) = go (step m fs b) (step-leads m fs b) (λ m′ fs′. 
   where
     go : (r : Step) → Leads r (spelled m fs ++ (b ∷ [])) → ((m′ : Mode) (fs′ : List Frame) → Ended (run m′ fs′ s) (spelled m′ fs′ ++ s))
         → Ended (elim r [ stuck ↦ forbidden (b ∷ s) | to m′ fs′ ↦ run m′ fs′ s ]) (spelled m fs ++ (b ∷ s))
-    go stuck l ih = tt
-    go (to m′ fs′) l ih = subst (λ (x : List ℕ). Ended (run m′ fs′ s) x) (ap (λ (y : List ℕ). y ++ s) l ∙ append-assoc (spelled m fs) (b ∷ []) s) (ih m′ fs′)
+    go stuck leads rest = tt
+    go (to m′ fs′) leads rest =
+        subst (Ended (run m′ fs′ s)) (ap (λ (l : List ℕ). l ++ s) leads ∙ append-assoc (spelled m fs) (b ∷ []) s) (rest m′ fs′)
 
 -- what the reader takes, written again, is the text
 pub read-written : (s : List ℕ) (t : Newick) → run start [] s ≡ reached (done t) [] → wholeText t ≡ s

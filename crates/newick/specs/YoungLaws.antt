@@ -1,7 +1,7 @@
 -- The ages of a Newick value: its youngest tip's is that of its upper node less the longest way down (`young-tip`), and two lists that hold it with different
--- ages of the upper node differ by as much everywhere (`dated-shift`). Of what was read: one tip has age 0 (`young-read`), and no age is above the root's
--- (`ages-most`). Assumes nothing.
-use mathlib.Core.Path.{_≡_, refl, ap, _∙_}
+-- ages of the upper node differ by as much everywhere (`dated-shift`). Of what was read: the lists hold the value (`read-dated`), one tip has age 0
+-- (`young-read`), and no age is above the root's (`ages-most`). Assumes nothing.
+use mathlib.Core.Path.{_≡_, ap, _∙_}
 use mathlib.Core.Logic.{inl, inr}
 use mathlib.Core.List.{List}
 use Prim.Native.Nat.{ℕ, suc, _+_, _-_, _≤_, _<_, max}
@@ -12,9 +12,11 @@ use lib.ListN.{length, getD, set, replicate, length-replicate, getD-replicate, L
 use lib.Seq.{getD-set-same, getD-set-other, set-out}
 use Rattle.tree.specs.Tree.{noNode}
 use Rattle.newick.specs.Newick.{Newick, tip, join}
-use Rattle.newick.specs.Numbering.{joins, tipsIn, nodesIn, times, pairsIn, reach, agesIn, agesRead}
-use Rattle.newick.specs.NumberingLaws.{times-other, Named, Inside}
+use Rattle.newick.specs.Numbering.{joins, tipsIn, nodesIn, times, pairsRead, reach, agesIn, agesRead}
+use Rattle.newick.specs.NumberingLaws.{times-other, Named, over, Inside}
 use Rattle.newick.specs.DatedLaws.{Dated, dated-built}
+
+-- ---- the youngest tip
 
 -- a tip of so many that has the age a
 abbrev pub TipAt : ℕ → List ℕ → ℕ → Type 0
@@ -39,6 +41,7 @@ young-tip tips ps l base h (join a x b y) r D = elim (decLe (y + reach b) (x + r
 tip-own : (i k : ℕ) → 1 ≤ times i (tip k) → i ≡ k
 tip-own i k h = elim (ℕ-discrete i k) [ yes e ↦ e | no d ↦ let z = times-other i k d in absurd (omega arith) ]
 
+-- a length x further up
 shift-up : (p q h h′ x : ℕ) → x ≤ h → x ≤ h′ → p + (h′ - x) ≡ q + (h - x) → p + h′ ≡ q + h
 shift-up p q h h′ x a b e = omega arith
 
@@ -46,10 +49,9 @@ pub dated-shift : (tips : ℕ) (ps l ps′ l′ : List ℕ) (base h h′ : ℕ) 
     → Dated tips ps l base h t → Dated tips ps′ l′ base h′ t → (i : ℕ) → Inside base t i → getD l i 0 + h′ ≡ getD l′ i 0 + h
 unfolding reach joins
 dated-shift tips ps l ps′ l′ base h h′ (tip k) r r′ D E i (inl g) =
-    let e = tip-own i k g in
-    let p : getD l i 0 ≡ h = ap (λ (j : ℕ). getD l j 0) e ∙ D .1 in
-    let q : getD l′ i 0 ≡ h′ = ap (λ (j : ℕ). getD l′ j 0) e ∙ E .1 in
-    omega arith
+    let p : getD l k 0 ≡ h = D .1 in
+    let q : getD l′ k 0 ≡ h′ = E .1 in
+    rw (tip-own i k g) (omega arith)
 dated-shift tips ps l ps′ l′ base h h′ (tip k) r r′ D E i (inr g) = let a = g .0 in let b = g .1 in absurd (omega arith)
 dated-shift tips ps l ps′ l′ base h h′ (join a x b y) r r′ D E i g = go g
     (λ u. shift-up (getD l i 0) (getD l′ i 0) h h′ x (omega arith) (omega arith)
@@ -57,41 +59,45 @@ dated-shift tips ps l ps′ l′ base h h′ (join a x b y) r r′ D E i g = go 
     (λ u. shift-up (getD l i 0) (getD l′ i 0) h h′ y (omega arith) (omega arith)
     (dated-shift tips ps l ps′ l′ (base + joins a) (h - y) (h′ - y) b (omega arith) (omega arith) (D .4) (E .4) i u))
   where
-    go : Inside base (join a x b y) i → (Inside base a i → getD l i 0 + h′ ≡ getD l′ i 0 + h) → (Inside (base + joins a) b i → getD l i 0 + h′ ≡ getD l′ i 0 + h)
-        → getD l i 0 + h′ ≡ getD l′ i 0 + h
+    Same : Type 0
+    Same = getD l i 0 + h′ ≡ getD l′ i 0 + h
+
+    go : Inside base (join a x b y) i → (Inside base a i → Same) → (Inside (base + joins a) b i → Same) → Same
     go (inl u) in-a in-b = elim (decLe 1 (times i a)) [
       | yes c ↦ in-a (inl c)
       | no c ↦ in-b (inl (let w : 1 ≤ times i a + times i b = (unfold times in u) in omega arith))
     ]
     go (inr u) in-a in-b = elim (decLt i (base + joins a)) [
       | yes c ↦ in-a (inr (u .0, c))
-      | no c ↦ elim (decLt i (base + joins a + joins b)) [
+      | no c ↦ elim (decLt i (over base a b)) [
         | yes d ↦ in-b (inr (omega arith, d))
         | no d ↦
             let top : i < base + suc (joins a + joins b) = u .1 in
-            let e : i ≡ base + joins a + joins b = omega arith in
-            let p : getD l i 0 ≡ h = ap (λ (j : ℕ). getD l j 0) e ∙ D .2 in
-            let q : getD l′ i 0 ≡ h′ = ap (λ (j : ℕ). getD l′ j 0) e ∙ E .2 in
-            omega arith
+            let e : i ≡ over base a b = omega arith in
+            let p : getD l (over base a b) 0 ≡ h = D .2 in
+            let q : getD l′ (over base a b) 0 ≡ h′ = E .2 in
+            rw e (omega arith)
       ]
     ]
 
 -- ---- of what was read
 
 -- the lists that the reader yields hold the value
-pub read-dated : (t : Newick) → Named (tipsIn t) t
-    → Dated (tipsIn t) (pairsIn (tipsIn t) t (replicate (nodesIn t + nodesIn t) noNode)) (agesRead t) (tipsIn t) (reach t) t
-unfolding agesRead
+pub read-dated : (t : Newick) → Named (tipsIn t) t → Dated (tipsIn t) (pairsRead t) (agesRead t) (tipsIn t) (reach t) t
+unfolding pairsRead agesRead
 read-dated t N =
-    let p = length-replicate (nodesIn t + nodesIn t) noNode in
-    let u = length-replicate {A = ℕ} (nodesIn t) 0 in
-    dated-built (tipsIn t) (tipsIn t) (reach t) t (replicate (nodesIn t + nodesIn t) noNode) (replicate (nodesIn t) 0) (le-refl _) N (omega arith) (omega arith)
+    let slots = length-replicate (nodesIn t + nodesIn t) noNode in
+    let places = length-replicate {A = ℕ} (nodesIn t) 0 in
+    dated-built (tipsIn t) (tipsIn t) (reach t) t (replicate (nodesIn t + nodesIn t) noNode) (replicate (nodesIn t) 0) (le-refl _) N
+    (omega arith) (omega arith)
 
 pub young-read : (t : Newick) → Named (tipsIn t) t → TipAt (tipsIn t) (agesRead t) 0
 young-read t N =
-    let y = young-tip (tipsIn t) (pairsIn (tipsIn t) t (replicate (nodesIn t + nodesIn t) noNode)) (agesRead t) (tipsIn t) (reach t) t (le-refl _) (read-dated t N) in
+    let y = young-tip (tipsIn t) (pairsRead t) (agesRead t) (tipsIn t) (reach t) t (le-refl _) (read-dated t N) in
     let z : reach t - reach t ≡ 0 = omega arith in
     (y .0, y .1, y .2 ∙ z)
+
+-- ---- no age is above the root's
 
 abbrev AtMost : ℕ → List ℕ → Type 0
 AtMost m l = (i : ℕ) → getD l i 0 ≤ m
@@ -109,7 +115,7 @@ most-in : (m base h : ℕ) (t : Newick) (l : List ℕ) → h ≤ m → AtMost m 
 unfolding agesIn
 most-in m base h (tip k) l g A = most-set m k h l g A
 most-in m base h (join a x b y) l g A =
-    most-set m (base + joins a + joins b) h (agesIn (base + joins a) (h - y) b (agesIn base (h - x) a l)) g
+    most-set m (over base a b) h (agesIn (base + joins a) (h - y) b (agesIn base (h - x) a l)) g
     (most-in m (base + joins a) (h - y) b (agesIn base (h - x) a l) (omega arith) (most-in m base (h - x) a l (omega arith) A))
 
 most-zeros : (n m : ℕ) → AtMost m (replicate n 0)

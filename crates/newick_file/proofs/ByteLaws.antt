@@ -1,14 +1,15 @@
 -- The ways through the code that files a byte. Assumes nothing.
-use mathlib.Core.Path.{_≡_, ap, ap₂, _∙_}
+use mathlib.Core.Path.{_≡_, sym, ap, ap₂, _∙_}
 use mathlib.Core.Bool.{Bool, true, false}
 use mathlib.Core.List.{List}
-use Prim.Native.Nat.{ℕ, suc, _+_, _-_, _*_, _≤_, _<_, min}
-use native.Mathlib.Omega.{arith}
+use Prim.Native.Nat.{ℕ, suc, _+_, _-_, _*_, _≤_, min}
 use lib.ListN.{getD, set}
-use borrow.Author.Tests.{le-leb, lt-leb, ne-eqb}
+use borrow.Author.Tests.{ne-eqb}
+use Rattle.text.specs.Rules.{isDecimal}
+use Rattle.text.specs.DigitLaws.{decimal-within}
 use Rattle.newick_file.specs.declared.Filer.{Filer}
 use Rattle.newick_file.specs.Filing.{most, short, filer, afterDigit, afterPoint, afterTip, afterClose, afterOther}
-use Rattle.newick_file.specs.Filing.{filing, pairsClosed, upsEnded, fileByte}
+use Rattle.newick_file.specs.Filing.{Filing, filing, pairsClosed, upsEnded, fileSign, fileByte}
 
 -- ---- where the pass stands
 
@@ -41,40 +42,46 @@ pub ruleset putLaws = (children-put, length-put)
 -- ---- a byte
 
 module _ (b : ℕ) (q : Filer) (ps us st : List ℕ) (se : List Bool) (r : Filer) where
-  pub digit-way : 48 ≤ b → b < 58 → r ≡ afterDigit (b - 48) q → filing ps us st se r ≡ fileByte (filing ps us st se q) b
-  unfolding fileByte
-  digit-way l u e = rw (le-leb 48 b l, le-leb b 57 (omega arith)) (ap (filing ps us st se) e)
-
-  pub point-way : b ≡ 46 → r ≡ afterPoint q → filing ps us st se r ≡ fileByte (filing ps us st se q) b
-  unfolding fileByte
+  pub point-way : b ≡ 46 → r ≡ afterPoint q → filing ps us st se r ≡ fileSign (filing ps us st se q) b
+  unfolding fileSign
   point-way e f = rw e (ap (filing ps us st se) f)
 
-  pub made-way : b ≡ 58 → q .closed ≡ true → r ≡ afterOther q → filing ps us st se r ≡ fileByte (filing ps us st se q) b
-  unfolding fileByte
+  pub made-way : b ≡ 58 → q .closed ≡ true → r ≡ afterOther q → filing ps us st se r ≡ fileSign (filing ps us st se q) b
+  unfolding fileSign
   made-way e c f = rw (e, c) (ap (filing ps us st se) f)
 
   pub tip-way : b ≡ 58 → q .closed ≡ false → (k : ℕ) → k ≡ short (q .value) → (st′ : List ℕ) (se′ : List Bool)
-      → st′ ≡ set st (q .height) k → se′ ≡ set se k true → r ≡ afterTip q → filing ps us st′ se′ r ≡ fileByte (filing ps us st se q) b
-  unfolding fileByte
+      → st′ ≡ set st (q .height) k → se′ ≡ set se k true → r ≡ afterTip q → filing ps us st′ se′ r ≡ fileSign (filing ps us st se q) b
+  unfolding fileSign
   tip-way e c k g st′ se′ f₁ f₂ f = rw (e, c) (λ i. filing ps us ((f₁ ∙ ap (set st (q .height)) g) i) ((f₂ ∙ ap (λ (z : ℕ). set se z true) g) i) (f i))
 
   pub comma-way : b ≡ 44 → (us′ : List ℕ) → us′ ≡ upsEnded (q .height) (q .value) st us → r ≡ afterOther q
-      → filing ps us′ st se r ≡ fileByte (filing ps us st se q) b
-  unfolding fileByte
+      → filing ps us′ st se r ≡ fileSign (filing ps us st se q) b
+  unfolding fileSign
   comma-way e us′ g f = rw e (λ i. filing ps (g i) st se (f i))
 
   pub close-way : b ≡ 41 → (us′ ps′ st′ : List ℕ) (j k : ℕ) → us′ ≡ upsEnded (q .height) (q .value) st us → ps′ ≡ pairsClosed (q .height) (q .next) st ps
-      → j ≡ q .height - 2 → k ≡ short (q .next) → st′ ≡ set st j k → r ≡ afterClose q → filing ps′ us′ st′ se r ≡ fileByte (filing ps us st se q) b
-  unfolding fileByte
+      → j ≡ q .height - 2 → k ≡ short (q .next) → st′ ≡ set st j k → r ≡ afterClose q → filing ps′ us′ st′ se r ≡ fileSign (filing ps us st se q) b
+  unfolding fileSign
   close-way e us′ ps′ st′ j k g₁ g₂ ej ek g₃ f = rw e (λ i. filing (g₂ i) (g₁ i) ((g₃ ∙ ap₂ (set st) ej ek) i) se (f i))
 
-  module _ (n₁ : b ≡ 46 → ⊥) (n₂ : b ≡ 58 → ⊥) (n₃ : b ≡ 44 → ⊥) (n₄ : b ≡ 41 → ⊥) (f : r ≡ afterOther q) where
-    pub low-way : b < 48 → filing ps us st se r ≡ fileByte (filing ps us st se q) b
-    unfolding fileByte
-    low-way h = rw (lt-leb 48 b h, ne-eqb b 46 n₁, ne-eqb b 58 n₂, ne-eqb b 44 n₃, ne-eqb b 41 n₄) (ap (filing ps us st se) f)
+  pub other-way : (b ≡ 46 → ⊥) → (b ≡ 58 → ⊥) → (b ≡ 44 → ⊥) → (b ≡ 41 → ⊥) → r ≡ afterOther q → filing ps us st se r ≡ fileSign (filing ps us st se q) b
+  unfolding fileSign
+  other-way n₁ n₂ n₃ n₄ f = rw (ne-eqb b 46 n₁, ne-eqb b 58 n₂, ne-eqb b 44 n₃, ne-eqb b 41 n₄) (ap (filing ps us st se) f)
 
-    pub high-way : 48 ≤ b → 58 ≤ b → filing ps us st se r ≡ fileByte (filing ps us st se q) b
-    unfolding fileByte
-    high-way h g = rw (le-leb 48 b h, lt-leb b 57 (omega arith), ne-eqb b 46 n₁, ne-eqb b 58 n₂, ne-eqb b 44 n₃, ne-eqb b 41 n₄) (ap (filing ps us st se) f)
+pub ruleset signLaws = (point-way, made-way, tip-way, comma-way, close-way, other-way)
 
-pub ruleset byteLaws = (digit-way, point-way, made-way, tip-way, comma-way, close-way, low-way, high-way)
+module _ (b : ℕ) (t : Bool) (e : t ≡ isDecimal b) where
+  pub digit-low : t ≡ true → 48 ≤ b
+  digit-low h = decimal-within b (sym e ∙ h) .0
+
+  module _ (q : Filer) (ps us st : List ℕ) (se : List Bool) where
+    pub digit-way : t ≡ true → (r : Filer) → r ≡ afterDigit (b - 48) q → filing ps us st se r ≡ fileByte (filing ps us st se q) b
+    unfolding fileByte
+    digit-way h r f = rw (← e, h) (ap (filing ps us st se) f)
+
+    pub sign-way : t ≡ false → (F : Filing) → F ≡ fileSign (filing ps us st se q) b → F ≡ fileByte (filing ps us st se q) b
+    unfolding fileByte
+    sign-way h F f = rw (← e, h) f
+
+pub ruleset byteLaws = (digit-low, digit-way, sign-way)

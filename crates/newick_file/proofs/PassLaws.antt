@@ -1,8 +1,8 @@
 -- The ways through the loops over the bytes of a text. Assumes nothing.
-use mathlib.Core.Path.{_≡_, refl, sym, ap, _∙_, subst}
+use mathlib.Core.Path.{_≡_, sym, ap, _∙_, subst}
 use mathlib.Core.Bool.{Bool, true, false, cond}
 use mathlib.Core.List.{List}
-use Prim.Native.Nat.{ℕ, suc, _+_, _^_, _≤_, _<_}
+use Prim.Native.Nat.{ℕ, suc, _+_, _≤_, _<_}
 use native.Mathlib.Numerals.{add-one}
 use native.Mathlib.Omega.{arith}
 use lib.Dec.{eqb}
@@ -11,13 +11,10 @@ use lib.Seq.{drop-cons}
 use borrow.Author.Tests.{eq-eqb, ne-eqb}
 use Rattle.tree.specs.Tree.{noNode}
 use Rattle.newick_file.specs.declared.Filer.{Filer}
-use Rattle.newick_file.specs.Filing.{filer, Filing, filing, fileByte, file, begun, blank, closeOf, closes}
+use Rattle.newick_file.specs.Filing.{Filing, filing, fileByte, file, begun, blank, closeOf, closes}
 use Rattle.newick_file.specs.Passes.{Built, Files, Counted}
 
 -- ---- the second pass
-
-pub files-none : (s : List ℕ) (tips : ℕ) (ps us st : List ℕ) (se : List Bool) → Files s 0 (filer 0 tips 0 false) ps us st se (file (begun tips ps us st se) s)
-files-none s tips ps us st se = record { fit = omega arith; rest = refl }
 
 module _ (s : List ℕ) (i : ℕ) (q : Filer) (ps us st : List ℕ) (se : List Bool) (F : Filing) (L : Files s i q ps us st se F) where
   pub files-next : i < length s → (ps′ us′ st′ : List ℕ) (se′ : List Bool) (q′ : Filer)
@@ -43,7 +40,7 @@ pub built-blank : (s : List ℕ) (tips : ℕ) (ps us st : List ℕ) (se : List B
     → Built ps us se (file (blank tips p u st e) s)
 built-blank s tips ps us st se ps₀ us₀ se₀ p u e f g h B = subst (Built ps us se) (λ i. file (begun tips (f i) (g i) st (h i)) s) B
 
-pub ruleset passLaws = (files-none, files-next, files-end, built-blank)
+pub ruleset passLaws = (files-next, files-end, built-blank)
 
 -- ---- counting
 
@@ -54,13 +51,7 @@ module _ (b n : ℕ) where
   pub count-none : (b ≡ 41 → ⊥) → n ≡ n + closeOf b
   count-none e = rw (ne-eqb b 41 e) (omega arith)
 
-pub counted-none : (s : List ℕ) → Counted s 0 0
-counted-none s = record { fit = omega arith; few = omega arith; rest = omega arith }
-
 module _ (s : List ℕ) (i n : ℕ) (C : Counted s i n) where
-  pub counted-room : i < length s → length s < 2 ^ 64 → n + 1 < 2 ^ 64
-  counted-room h g = let w = C .few in omega arith
-
   pub counted-next : i < length s → (m : ℕ) → m ≡ n + closeOf (getD s i 0) → Counted s (i + 1) m
   unfolding closes
   counted-next h m e = record {
@@ -80,4 +71,4 @@ module _ (s : List ℕ) (i n : ℕ) (C : Counted s i n) where
   unfolding closes
   counted-end h = let z : closes (drop i s) ≡ 0 = ap closes (drop-of-length-le s {i = i} h) in let r = C .rest in omega arith
 
-pub ruleset countLaws = (count-one, count-none, counted-none, counted-next, counted-end)
+pub ruleset countLaws = (count-one, count-none, counted-next, counted-end)

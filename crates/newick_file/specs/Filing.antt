@@ -80,14 +80,16 @@ fileClose F =
 abbrev pub fileState : Filing → Filer → Filing
 fileState F q = filing (F .pairs) (F .ups) (F .stack) (F .seen) q
 
--- a colon behind a number ends a tip; the numbers in a text are those of tips and the lengths
-unfoldable pub fileByte : Filing → ℕ → Filing
-fileByte F b =
-    cond (isDecimal b) (fileState F (afterDigit (b - 48) (F .state)))
-    (cond (eqb b (sign ".")) (fileState F (afterPoint (F .state)))
+-- a byte that is no digit: a colon behind a number ends a tip; the numbers in a text are those of tips and the lengths
+unfoldable pub fileSign : Filing → ℕ → Filing
+fileSign F b =
+    cond (eqb b (sign ".")) (fileState F (afterPoint (F .state)))
     (cond (eqb b (sign ":")) (cond (F .state .closed) (fileState F (afterOther (F .state))) (fileTip F))
     (cond (eqb b (sign ",")) (fileComma F)
-    (cond (eqb b (sign ")")) (fileClose F) (fileState F (afterOther (F .state)))))))
+    (cond (eqb b (sign ")")) (fileClose F) (fileState F (afterOther (F .state))))))
+
+unfoldable pub fileByte : Filing → ℕ → Filing
+fileByte F b = cond (isDecimal b) (fileState F (afterDigit (b - 48) (F .state))) (fileSign F b)
 
 unfoldable pub file : Filing → List ℕ → Filing
 file F [] = F

@@ -14,7 +14,7 @@ use Rattle.newick.specs.Numbering.{joins, tipsIn, nodesIn, nodeOf, pairsIn}
 use Rattle.newick.specs.DecimalLaws.{digit-is, digit-back, number-one, number-snoc}
 use Rattle.newick.specs.RunLaws.{read-written}
 use Rattle.newick.specs.PlaceLaws.{Pair, done-pair}
-use Rattle.newick_file.specs.Filing.{most, short, filer, Filing, filing, fileState, fileByte, file, begun, capped, lengthsIn, seenIn}
+use Rattle.newick_file.specs.Filing.{most, short, filer, Filing, filing, fileState, fileSign, fileByte, file, begun, capped, lengthsIn, seenIn}
 use Rattle.newick_file.specs.Passes.{Built}
 
 -- ---- numbers
@@ -24,11 +24,11 @@ abbrev reads : Filing → ℕ → Filing
 reads F v = fileState F (filer (F .state .height) (F .state .next) v false)
 
 digit-filed : (F : Filing) (d : ℕ) → d < 10 → fileByte F (48 + d) ≡ reads F (min (F .state .value * 10 + d) most)
-unfolding fileByte
+unfolding fileByte fileSign
 digit-filed F d h = rw (digit-is d h, digit-back d)
 
 point-filed : (F : Filing) → fileByte F 46 ≡ reads F (F .state .value)
-unfolding fileByte
+unfolding fileByte fileSign
 point-filed F = refl
 
 -- one digit more, within the limit
@@ -75,30 +75,30 @@ length-filed x F z rest =
 
 module _ (ps us st : List ℕ) (se : List Bool) (h n : ℕ) where
   open-filed : fileByte (filing ps us st se (filer h n 0 false)) 40 ≡ filing ps us st se (filer h n 0 false)
-  unfolding fileByte
+  unfolding fileByte fileSign
   open-filed = refl
 
   tip-filed : (k : ℕ) → suc h ≤ 65535
       → fileByte (filing ps us st se (filer h n (min k most) false)) 58 ≡ filing ps us (set st h (short k)) (set se (short k) true) (filer (suc h) n 0 false)
-  unfolding fileByte
+  unfolding fileByte fileSign
   tip-filed k H =
       let e : min (min k most) 65535 ≡ min k 65535 = omega arith in
       let f : min (suc h) 65535 ≡ suc h = omega arith in
       rw (e, f)
 
   made-filed : fileByte (filing ps us st se (filer h n 0 true)) 58 ≡ filing ps us st se (filer h n 0 false)
-  unfolding fileByte
+  unfolding fileByte fileSign
   made-filed = refl
 
 -- with the node i waiting last, and j before it
 module _ (ps us st : List ℕ) (se : List Bool) (h n v i : ℕ) where
   comma-filed : getD st h 0 ≡ i → fileByte (filing ps us st se (filer (suc h) n v false)) 44 ≡ filing ps (set us i v) st se (filer (suc h) n 0 false)
-  unfolding fileByte
+  unfolding fileByte fileSign
   comma-filed e = let f : suc h - 1 ≡ h = omega arith in rw (f, e)
 
   close-filed : (j : ℕ) → getD st (suc h) 0 ≡ i → getD st h 0 ≡ j → suc n ≤ 65535 → fileByte (filing ps us st se (filer (suc (suc h)) n v false)) 41
       ≡ filing (set (set ps (n + n) j) (suc (n + n)) i) (set us i v) (set st h n) se (filer (suc h) (suc n) 0 true)
-  unfolding fileByte
+  unfolding fileByte fileSign
   close-filed j p q N =
       let e : suc (suc h) - 1 ≡ suc h = omega arith in
       let f : suc (suc h) - 2 ≡ h = omega arith in
@@ -198,7 +198,8 @@ module _ (a : Newick) (x : ℕ) (b : Newick) (y : ℕ) (ps us st : List ℕ) (se
         ∙ ap (λ (k : ℕ). file (filing ps₃ (set us₃ j w) (set (B .stack) h v) se₂ (filer (suc h) k 0 false)) rest) e;
   }
 
-filed : (t : Newick) (ps us st : List ℕ) (se : List Bool) (h n : ℕ) → h + joins t < length st → length st ≤ 65535 → n + joins t ≤ 65535 → Filed t ps us st se h n
+filed : (t : Newick) (ps us st : List ℕ) (se : List Bool) (h n : ℕ) → h + joins t < length st → length st ≤ 65535 → n + joins t ≤ 65535
+    → Filed t ps us st se h n
 unfolding text joins nodeOf pairsIn lengthsIn seenIn capped file
 filed (tip k) ps us st se h n R L N = record {
   stack = set st h (short k);
@@ -226,7 +227,7 @@ file-append F [] r = refl
 file-append F (b ∷ s) r = file-append (fileByte F b) s r
 
 end-filed : (G : Filing) → file G (41 ∷ 59 ∷ []) ≡ file G (41 ∷ 58 ∷ [])
-unfolding file fileByte
+unfolding file fileByte fileSign
 end-filed G = refl
 
 last-filed : (F : Filing) (s : List ℕ) → file F ((s ++ (41 ∷ [])) ++ (59 ∷ [])) ≡ file F ((s ++ (41 ∷ [])) ++ (58 ∷ []))

@@ -1,4 +1,4 @@
-// The reader's second pass over the bytes of a Newick text, as Filing has it: one dispatch on each byte, and no slice is written past its end. The first pass
+// The reader's second pass over the bytes of a Newick text, as Filing has it: a digit first, and then the signs, and no slice is written past its end. The first pass
 // has judged the spelling by then; here any bytes will do. Assumes nothing.
 ghost use mathlib.Core.Bool.{true, false};
 ghost use mathlib.Core.Path.{_≡_};
@@ -6,7 +6,7 @@ ghost use Prim.Native.Nat.{suc, _+_, _-_, _*_, _^_, _<_, min};
 ghost use lib.ListN.{length, getD, set, replicate};
 ghost use Rattle.tree.specs.Tree.{noNode};
 ghost use Rattle.newick_file.specs.Filing.{most, short, afterDigit, afterPoint, afterTip, afterClose, afterOther, filing, pairsClosed, upsEnded};
-ghost use Rattle.newick_file.specs.Filing.{fileByte, file, begun, blank, closeOf, closes};
+ghost use Rattle.newick_file.specs.Filing.{fileSign, fileByte, file, begun, blank, closeOf, closes};
 ghost use Rattle.newick_file.specs.Passes.{Built};
 
 // Lengths stay at the first root age that is refused.
@@ -227,6 +227,42 @@ fn put_length(h: usize, v: u64, stack: &[u16], ups: &mut [u64])
     put_long(ups, k as usize, v);
 }
 
+// A byte that is no digit.
+fn file_sign(
+    b: u8,
+    q: Filer,
+    pairs: &mut [u16],
+    ups: &mut [u64],
+    stack: &mut [u16],
+    seen: &mut [bool],
+) -> Filer
+    ensures { λ r. ⌜ filing (now (pairs .exit)) (now (ups .exit)) (now (stack .exit)) (now (seen .exit)) r ≡ fileSign (filing (now (pairs .entry)) (now (ups .entry)) (now (stack .entry)) (now (seen .entry)) q) b ⌝ }
+{
+    if b == b'.' {
+        return after_point(q);
+    }
+    if b == b':' {
+        if q.closed {
+            return after_other(q);
+        }
+        let k = narrow(q.value as usize);
+        put_short(stack, q.height, k);
+        put_seen(seen, k as usize);
+        return after_tip(q);
+    }
+    if b == b',' {
+        put_length(q.height, q.value, stack, ups);
+        return after_other(q);
+    }
+    if b == b')' {
+        put_length(q.height, q.value, stack, ups);
+        put_children(q.height, q.next, stack, pairs);
+        put_short(stack, less(q.height, 2), narrow(q.next));
+        return after_close(q);
+    }
+    after_other(q)
+}
+
 fn file_byte(
     b: u8,
     q: Filer,
@@ -237,36 +273,10 @@ fn file_byte(
 ) -> Filer
     ensures { λ r. ⌜ filing (now (pairs .exit)) (now (ups .exit)) (now (stack .exit)) (now (seen .exit)) r ≡ fileByte (filing (now (pairs .entry)) (now (ups .entry)) (now (stack .entry)) (now (seen .entry)) q) b ⌝ }
 {
-    match b {
-        b'0'..=b'9' => {
-            return after_digit(q, b - b'0');
-        }
-        b'.' => {
-            return after_point(q);
-        }
-        b':' => {
-            if q.closed {
-                return after_other(q);
-            }
-            let k = narrow(q.value as usize);
-            put_short(stack, q.height, k);
-            put_seen(seen, k as usize);
-            return after_tip(q);
-        }
-        b',' => {
-            put_length(q.height, q.value, stack, ups);
-            return after_other(q);
-        }
-        b')' => {
-            put_length(q.height, q.value, stack, ups);
-            put_children(q.height, q.next, stack, pairs);
-            put_short(stack, less(q.height, 2), narrow(q.next));
-            return after_close(q);
-        }
-        _ => {
-            return after_other(q);
-        }
+    if text::is_decimal(b) {
+        return after_digit(q, b - b'0');
     }
+    file_sign(b, q, pairs, ups, stack, seen)
 }
 
 // ---- a text

@@ -1,8 +1,8 @@
 -- The ways through the code of the call, from what was filled up to the text. Assumes nothing.
-use mathlib.Core.Path.{_≡_, refl, sym, ap, _∙_, subst}
+use mathlib.Core.Path.{_≡_, sym, ap, _∙_, subst}
 use mathlib.Core.Bool.{Bool, true, false, cond}
 use mathlib.Core.List.{List}
-use Prim.Native.Nat.{ℕ, _+_, _-_, _≤_, _<_}
+use Prim.Native.Nat.{ℕ, _≤_, _<_}
 use native.Mathlib.Omega.{arith}
 use lib.ListN.{length, take}
 use lib.Seq.{length-take-le}
@@ -15,7 +15,7 @@ use Rattle.newick_spell.specs.SpellingLaws.{forbidden-reading, unfinished-readi
 use Rattle.newick_file.specs.Filing.{most, file, blank, closes}
 use Rattle.newick_file.specs.Passes.{Built}
 use Rattle.newick_read.specs.Taking.{rootReach, allSeen, placeCall, deliver, judgeAge, judge, work}
-use Rattle.newick_read.specs.Given.{Whole, Few, Works}
+use Rattle.newick_read.specs.Given.{Whole, Works}
 use Rattle.newick_read.specs.TakingLaws.{work-read, many-read}
 
 -- ---- what was filled, judged
@@ -78,9 +78,6 @@ pub ruleset roomLaws = (works, part-long, nodes-room, slots-room, marks-read, li
 -- ---- by the count of tips
 
 module _ (s : List ℕ) (A : Whole s) (n : ℕ) (e : n ≡ closes s) where
-  pub whole-few : n < 2048 → Few s (n + 1)
-  whole-few h = record { whole = A; count = omega arith; few = omega arith }
-
   pub whole-many : 2048 ≤ n → (pairs ages : List ℕ) → placeCall (length s) pairs ages ≡ readCall s pairs ages
   whole-many h pairs ages = sym (many-read s (A .value) (A .ran) pairs ages (omega arith))
 
@@ -98,4 +95,4 @@ module _ (s : List ℕ) (a : Spelling) (e : a ≡ spellingOf s) where
   pub read-spelled : a ≡ Spelled → Whole s
   read-spelled f = let r = spelled-run s (sym e ∙ f) in record { value = r .0; ran = r .1 }
 
-pub ruleset callLaws = (whole-few, whole-many, read-forbidden, read-unfinished, read-spelled)
+pub ruleset callLaws = (whole-many, read-forbidden, read-unfinished, read-spelled)

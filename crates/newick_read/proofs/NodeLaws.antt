@@ -9,19 +9,10 @@ use Rattle.tree.specs.Tree.{firstIn, secondIn}
 use Rattle.newick_file.specs.Filing.{most}
 use Rattle.newick_read.specs.Taking.{reachAt, agesAt, rootReach, rootAges}
 
--- ---- lengths
+-- ---- lengths: past the end there is none
 
 pub read-past : (us : List ℕ) (k : ℕ) → length us ≤ k → 0 ≡ getD us k 0
 read-past us k h = sym (List·getD-eq-default us 0 h)
-
-module _ (us : List ℕ) (h k x : ℕ) (e : x ≡ getD us k 0) where
-  pub child-below : h - x ≡ h - getD us k 0
-  child-below = ap (λ (z : ℕ). h - z) e
-
-  pub child-none : h ≤ x → 0 ≡ h - getD us k 0
-  child-none g = omega arith
-
-pub ruleset lengthLaws = (read-past, child-below, child-none)
 
 -- ---- recursion
 

@@ -22,9 +22,6 @@ pub record Copied (from to : List ℕ) (m : ℕ) : Type 0 where
   pub same : (j : ℕ) → j < m → getD to j 0 ≡ getD from j 0
 
 module _ (from to : List ℕ) where
-  pub copy-start : length from ≡ length to → Copied from to 0
-  copy-start l = record { long = sym l; same = λ j h. absurd (omega arith) }
-
   module _ (m : ℕ) (c : Copied from to m) where
     pub copy-step : m < length from → Copied from (set to m (getD from m 0)) (m + 1)
     copy-step h = record {
@@ -38,7 +35,7 @@ module _ (from to : List ℕ) where
     pub copy-end : length from ≤ m → to ≡ from
     copy-end h = ext-getD 0 to from (c .long) (λ j b. let l = c .long in c .same j (omega arith))
 
-pub ruleset copyLaws = (copy-start, copy-step, copy-end)
+pub ruleset copyLaws = (copy-step, copy-end)
 
 -- ---- tips that were seen
 

@@ -15,6 +15,7 @@ use Rattle.newick_write.specs.declared.Children.{Children}
 use Rattle.newick_write.specs.declared.Space.{Space}
 use Rattle.newick_write.specs.declared.Space.the-variants.{Left, Short}
 
+-- a node's children with the lengths of their branches
 unfoldable pub childrenOf : List ℕ → List ℕ → ℕ → Children
 childrenOf pairs ages k = record {
   first = firstIn pairs k;
@@ -23,7 +24,7 @@ childrenOf pairs ages k = record {
   lower = getD ages k 0 - getD ages (secondIn pairs k) 0;
 }
 
--- so many bytes more are taken
+-- the space that so many bytes more leave
 abbrev pub spaceAfter : Space → ℕ → Space
 spaceAfter (Left left) count = cond (ltb left count) Short (Left (left - count))
 spaceAfter Short count = Short

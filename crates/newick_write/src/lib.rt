@@ -236,7 +236,13 @@ fn print_ages(heights: &[f64], ages: &mut [u64]) -> bool
 }
 
 // In as many places as there are heights.
-fn write_with(pairs: &[u16], heights: &[f64], root: usize, ages: &mut [u64], out: &mut [u8]) -> Copied
+fn write_with(
+    pairs: &[u16],
+    heights: &[f64],
+    root: usize,
+    ages: &mut [u64],
+    out: &mut [u8],
+) -> Copied
     requires { ⌜ length (now ages) ≡ length (now heights) ⌝ }
     ensures { λ r. ⌜ copied r (now (out .exit)) ≡ copyAged (treeOf (now (pairs .entry)) [] (now (heights .entry)) root) (now (out .entry)) (agesOf (now (heights .entry))) ⌝ }
 {

@@ -108,7 +108,7 @@ pub fn read_word(s: &[u8], at: usize, values: &[u8; 256]) -> Number
 }
 
 // A decimal digit.
-fn is_decimal(b: u8) -> bool
+pub fn is_decimal(b: u8) -> bool
     ensures { λ r. ⌜ r ≡ isDecimal b ⌝ }
 {
     48 <= b && b <= 57

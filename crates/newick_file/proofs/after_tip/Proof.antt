@@ -1,6 +1,6 @@
 -- `newick_file::after_tip` meets its contract. Assumes nothing.
-use Rattle.newick_file.proofs.ByteLaws.{afterLaws}
 use borrow.Author.Needs.{needs}
+use Rattle.newick_file.proofs.ByteLaws.{afterLaws}
 use Rattle.newick_file.proofs.after_tip.Statement.{statement}
 use Rattle.newick_file.proofs.after_tip.Tie as tie
 

@@ -1,6 +1,6 @@
 -- `newick_file::build` meets its contract. Assumes nothing.
-use Rattle.newick_file.proofs.PassLaws.{passLaws}
 use borrow.Author.Needs.{needs}
+use Rattle.newick_file.proofs.PassLaws.{passLaws}
 use Rattle.newick_file.proofs.build.Statement.{statement}
 use Rattle.newick_file.proofs.build.Tie as tie
 

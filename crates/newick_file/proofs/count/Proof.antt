@@ -1,9 +1,9 @@
 -- `newick_file::count` meets its contract. Assumes nothing.
 use Prim.Native.Nat.{_-_}
 use lib.ListN.{length}
+use borrow.Author.Needs.{needs}
 use Rattle.newick_file.specs.Passes.{Counted}
 use Rattle.newick_file.proofs.PassLaws.{countLaws}
-use borrow.Author.Needs.{needs}
 use Rattle.newick_file.proofs.count.Statement.{statement}
 use Rattle.newick_file.proofs.count.Tie as tie
 

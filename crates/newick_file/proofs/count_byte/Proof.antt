@@ -1,6 +1,6 @@
 -- `newick_file::count_byte` meets its contract. Assumes nothing.
-use Rattle.newick_file.proofs.PassLaws.{countLaws}
 use borrow.Author.Needs.{needs}
+use Rattle.newick_file.proofs.PassLaws.{countLaws}
 use Rattle.newick_file.proofs.count_byte.Statement.{statement}
 use Rattle.newick_file.proofs.count_byte.Tie as tie
 

@@ -2,10 +2,10 @@
 use mathlib.Core.Path.{_≡_}
 use Prim.Native.Nat.{_-_}
 use lib.ListN.{length}
+use borrow.Author.Needs.{needs}
 use Rattle.newick_file.specs.Filing.{file, begun}
 use Rattle.newick_file.specs.Passes.{Files}
 use Rattle.newick_file.proofs.PassLaws.{passLaws}
-use borrow.Author.Needs.{needs}
 use Rattle.newick_file.proofs.file_all.Statement.{statement}
 use Rattle.newick_file.proofs.file_all.Tie as tie
 

@@ -2,8 +2,8 @@
 use mathlib.Core.Path.{_≡_}
 use Prim.Native.Nat.{_-_, _≤_}
 use lib.ListN.{length}
-use Rattle.newick_file.proofs.StoreLaws.{Filled, fillLaws}
 use borrow.Author.Needs.{needs}
+use Rattle.newick_file.proofs.StoreLaws.{Filled, fillLaws}
 use Rattle.newick_file.proofs.fill_long.Statement.{statement}
 use Rattle.newick_file.proofs.fill_long.Tie as tie
 

@@ -3,8 +3,8 @@ use mathlib.Core.Path.{_≡_}
 use Prim.Native.Nat.{_-_, _≤_}
 use lib.ListN.{length}
 use mathlib.Core.Bool.{false}
-use Rattle.newick_file.proofs.StoreLaws.{Filled, fillLaws}
 use borrow.Author.Needs.{needs}
+use Rattle.newick_file.proofs.StoreLaws.{Filled, fillLaws}
 use Rattle.newick_file.proofs.fill_seen.Statement.{statement}
 use Rattle.newick_file.proofs.fill_seen.Tie as tie
 

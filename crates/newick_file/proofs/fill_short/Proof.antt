@@ -2,9 +2,9 @@
 use mathlib.Core.Path.{_≡_}
 use Prim.Native.Nat.{_-_, _≤_}
 use lib.ListN.{length}
+use borrow.Author.Needs.{needs}
 use Rattle.tree.specs.Tree.{noNode}
 use Rattle.newick_file.proofs.StoreLaws.{Filled, fillLaws}
-use borrow.Author.Needs.{needs}
 use Rattle.newick_file.proofs.fill_short.Statement.{statement}
 use Rattle.newick_file.proofs.fill_short.Tie as tie
 

@@ -1,6 +1,6 @@
 -- `newick_file::put_children` meets its contract. Assumes nothing.
-use Rattle.newick_file.proofs.ByteLaws.{putLaws}
 use borrow.Author.Needs.{needs}
+use Rattle.newick_file.proofs.ByteLaws.{putLaws}
 use Rattle.newick_file.proofs.put_children.Statement.{statement}
 use Rattle.newick_file.proofs.put_children.Tie as tie
 

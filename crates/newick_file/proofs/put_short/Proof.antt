@@ -1,6 +1,6 @@
 -- `newick_file::put_short` meets its contract. Assumes nothing.
-use Rattle.newick_file.proofs.StoreLaws.{storeLaws}
 use borrow.Author.Needs.{needs}
+use Rattle.newick_file.proofs.StoreLaws.{storeLaws}
 use Rattle.newick_file.proofs.put_short.Statement.{statement}
 use Rattle.newick_file.proofs.put_short.Tie as tie
 

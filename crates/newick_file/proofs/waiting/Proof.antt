@@ -1,6 +1,6 @@
 -- `newick_file::waiting` meets its contract. Assumes nothing.
-use Rattle.newick_file.proofs.StoreLaws.{storeLaws}
 use borrow.Author.Needs.{needs}
+use Rattle.newick_file.proofs.StoreLaws.{storeLaws}
 use Rattle.newick_file.proofs.waiting.Statement.{statement}
 use Rattle.newick_file.proofs.waiting.Tie as tie
 
