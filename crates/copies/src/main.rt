@@ -16,36 +16,61 @@ fn ages_room() -> [u64; 4095] {
     [0u64; 4095]
 }
 
-fn print_pairs(pairs: &[u16]) {
-    let n = pairs.len() / 2;
-    for k in 0..n {
-        if n < k + k {
+// One of the places of the pairs: the first child of a node, the second, or a tip's, which is not printed.
+fn print_place(place: usize, child: u16) {
+    if child < 65535 {
+        if place % 2 == 0 {
             lines::text(b" ");
-            lines::number(pairs[k + k] as u64);
+        } else {
             lines::text(b",");
-            lines::number(pairs[k + k + 1] as u64);
         }
+        lines::number(child as u64);
     }
+}
+
+fn print_pairs(pairs: &[u16]) {
+    for k in 0..pairs.len() {
+        print_place(k, pairs[k]);
+    }
+}
+
+fn print_age(age: u64) {
+    lines::text(b" ");
+    lines::number(age);
 }
 
 fn print_ages(ages: &[u64]) {
     for k in 0..ages.len() {
-        lines::text(b" ");
-        lines::number(ages[k]);
+        print_age(ages[k]);
+    }
+}
+
+fn print_root(ages: &[u64]) {
+    let n = ages.len();
+    if 0 < n {
+        lines::text(b" root");
+        print_age(ages[n - 1]);
     }
 }
 
 fn print_tree(pairs: &[u16], ages: &[u64]) {
-    let n = ages.len();
-    lines::number(n as u64);
-    if n < 10 {
+    lines::number(ages.len() as u64);
+    if ages.len() < 10 {
         lines::text(b" pairs");
         print_pairs(pairs);
         lines::text(b" ages");
         print_ages(ages);
     } else {
-        lines::text(b" root");
-        print_ages(&ages[n - 1..]);
+        print_root(ages);
+    }
+}
+
+// A tree of n nodes at the start of slices, with two places of the pairs for each.
+fn print_first(pairs: &[u16], ages: &[u64], places: usize, n: usize) {
+    if places <= pairs.len() {
+        if n <= ages.len() {
+            print_tree(&pairs[..places], &ages[..n]);
+        }
     }
 }
 
@@ -55,7 +80,7 @@ fn answer(text: &[u8]) {
     match newick_read::read(text, &mut pairs, &mut ages) {
         Taken::Nodes(n) => {
             if n <= 4095 {
-                print_tree(&pairs[..n + n], &ages[..n]);
+                print_first(&pairs, &ages, n + n, n);
             }
         }
         Taken::Refused(why) => lines::refused(why),
@@ -63,20 +88,37 @@ fn answer(text: &[u8]) {
     lines::end();
 }
 
-fn answer_line(input: &[u8], from: usize, end: usize) {
-    if from <= end && end <= input.len() {
-        answer(&input[from..end]);
+fn answer_first(text: &[u8], count: usize) {
+    if count <= text.len() {
+        answer(&text[..count]);
+    }
+}
+
+// A byte of a line, of which so many are at the start of `line`, which has room for them; its end answers it. How many there are then.
+fn take_byte(b: u8, line: &mut [u8], count: usize) -> usize {
+    if b == 10 {
+        answer_first(line, count);
+        return 0;
+    }
+    print::put_byte(line, count, b)
+}
+
+fn answer_lines(input: &[u8], line: &mut [u8]) {
+    let mut count = 0;
+    for at in 0..input.len() {
+        count = take_byte(input[at], &mut *line, count);
+    }
+}
+
+fn answer_input(input: &[u8], count: usize, line: &mut [u8]) {
+    if count <= input.len() {
+        answer_lines(&input[..count], line);
     }
 }
 
 fn main() {
     let mut input = input_room();
+    let mut line = input_room();
     let count = io::read_full(STDIN_FILENO, &mut input);
-    let mut from = 0;
-    for at in 0..count {
-        if at < input.len() && input[at] == 10 {
-            answer_line(&input, from, at);
-            from = at + 1;
-        }
-    }
+    answer_input(&input, count, &mut line);
 }

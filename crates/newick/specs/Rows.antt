@@ -29,11 +29,11 @@ none = noNode ∷ noNode ∷ []
 -- tree F of document 01
 abbrev F : Tree
 F = record {
-    pairs = none ++ none ++ none ++ (0 ∷ 1 ∷ 3 ∷ 2 ∷ []);
-    parents = 3 ∷ 3 ∷ 4 ∷ 4 ∷ noNode ∷ [];
-    heights = Real.zero ∷ Real.zero ∷ Real.zero ∷ ofBits binary64 0x3ff0_0000_0000_0000 ∷ ofBits binary64 0x4000_0000_0000_0000 ∷ [];
-    root = 4
-  }
+  pairs = none ++ none ++ none ++ (0 ∷ 1 ∷ 3 ∷ 2 ∷ []);
+  parents = 3 ∷ 3 ∷ 4 ∷ 4 ∷ noNode ∷ [];
+  heights = Real.zero ∷ Real.zero ∷ Real.zero ∷ ofBits binary64 0x3ff0_0000_0000_0000 ∷ ofBits binary64 0x4000_0000_0000_0000 ∷ [];
+  root = 4;
+}
 
 -- two tips under a root, of these heights
 abbrev pair : Float → Float → Float → Tree
@@ -95,8 +95,16 @@ pub record ReadRows : Type 0 where
 pub read-rows : ReadRows
 unfolding readCall reading run step acceptable every joins times nodeOf pairsIn pairsRead reach agesIn agesRead innersIn upFrom subtree
 read-rows = record {
-    pairs = refl; ages = refl; closing = refl; own = refl; short-pairs = refl; short-ages = refl; faulty-first = refl; oldest = refl; too-old = refl
-  }
+  pairs = refl;
+  ages = refl;
+  closing = refl;
+  own = refl;
+  short-pairs = refl;
+  short-ages = refl;
+  faulty-first = refl;
+  oldest = refl;
+  too-old = refl;
+}
 
 -- ---- places
 
@@ -134,7 +142,24 @@ pub record PlaceRows : Type 0 where
 pub place-rows : PlaceRows
 unfolding reading run step acceptable every joins times reach
 place-rows = record {
-    empty = refl; opened = refl; half = refl; unended = refl; tip-alone = refl; one-child = refl; three-children = refl; no-length = refl; root-length = refl;
-    line-end = refl; leading-zero = refl; zero-name = refl; no-whole = refl; no-point = refl; two-decimals = refl; four-decimals = refl; from-one = refl;
-    twice = refl; beyond = refl; byte-first = refl
-  }
+  empty = refl;
+  opened = refl;
+  half = refl;
+  unended = refl;
+  tip-alone = refl;
+  one-child = refl;
+  three-children = refl;
+  no-length = refl;
+  root-length = refl;
+  line-end = refl;
+  leading-zero = refl;
+  zero-name = refl;
+  no-whole = refl;
+  no-point = refl;
+  two-decimals = refl;
+  four-decimals = refl;
+  from-one = refl;
+  twice = refl;
+  beyond = refl;
+  byte-first = refl;
+}

@@ -35,40 +35,66 @@ fn line(key: &[u8], n: u64) {
     lines::end();
 }
 
-fn pair(a: u16, b: u16) {
-    lines::text(b"pair=");
-    lines::number(a as u64);
-    lines::text(b",");
-    lines::number(b as u64);
-    lines::end();
-}
-
-// The pairs of the internal nodes, which come after the tips.
-fn print_pairs(pairs: &[u16]) {
-    let n = pairs.len() / 2;
-    for k in 0..n {
-        if n < k + k {
-            pair(pairs[k + k], pairs[k + k + 1]);
+// One of the places of the pairs: the first child of a node, the second, or a tip's, which is not printed.
+fn print_place(place: usize, child: u16) {
+    if child < 65535 {
+        if place % 2 == 0 {
+            lines::text(b"pair=");
+            lines::number(child as u64);
+        } else {
+            line(b",", child as u64);
         }
     }
 }
 
+fn print_pairs(pairs: &[u16]) {
+    for k in 0..pairs.len() {
+        print_place(k, pairs[k]);
+    }
+}
+
+fn print_age(age: u64) {
+    line(b"age=", age);
+}
+
 fn print_ages(ages: &[u64]) {
     for k in 0..ages.len() {
-        line(b"age=", ages[k]);
+        print_age(ages[k]);
+    }
+}
+
+fn print_text(text: &[u8], count: usize) {
+    if count <= text.len() {
+        lines::text(&text[..count]);
+        lines::end();
     }
 }
 
 fn print_copy(pairs: &[u16], ages: &[u64], root: usize) {
     let mut copy = copy_room();
     match newick_write::write_ages(pairs, ages, root, &mut copy) {
-        Copied::Bytes(count) => {
-            if count <= copy.len() {
-                lines::text(&copy[..count]);
-                lines::end();
-            }
-        }
+        Copied::Bytes(count) => print_text(&copy, count),
         Copied::Refused(why) => refuse(why),
+    }
+}
+
+// Of a tree, whose root is its last node.
+fn print_tree(pairs: &[u16], ages: &[u64]) {
+    let n = ages.len();
+    line(b"tips=", (n / 2 + 1) as u64);
+    print_pairs(pairs);
+    print_ages(ages);
+    if 0 < n {
+        print_copy(pairs, ages, n - 1);
+    }
+}
+
+// A tree of n nodes at the start of slices, with two places of the pairs for each.
+fn print_first(pairs: &[u16], ages: &[u64], places: usize, n: usize) {
+    if places <= pairs.len() {
+        if n <= ages.len() {
+            print_tree(&pairs[..places], &ages[..n]);
+        }
     }
 }
 
@@ -77,21 +103,22 @@ fn recopy(text: &[u8]) {
     let mut ages = ages_room();
     match newick_read::read(text, &mut pairs, &mut ages) {
         Taken::Nodes(n) => {
-            if n <= 4095 && 0 < n {
-                line(b"tips=", (n / 2 + 1) as u64);
-                print_pairs(&pairs[..n + n]);
-                print_ages(&ages[..n]);
-                print_copy(&pairs[..n + n], &ages[..n], n - 1);
+            if n <= 4095 {
+                print_first(&pairs, &ages, n + n, n);
             }
         }
         Taken::Refused(why) => refuse(why),
     }
 }
 
-fn main() {
-    let mut text = text_room();
-    let count = io::read_full(STDIN_FILENO, &mut text);
+fn recopy_first(text: &[u8], count: usize) {
     if count <= text.len() {
         recopy(&text[..count]);
     }
+}
+
+fn main() {
+    let mut text = text_room();
+    let count = io::read_full(STDIN_FILENO, &mut text);
+    recopy_first(&text, count);
 }
