@@ -5,7 +5,7 @@ use Prim.Native.Nat.{ℕ, _-_, _^_}
 use lib.Dec.{ltb, leb}
 use lib.ListN.{length}
 use Rattle.tree.specs.Bounded.{every}
-use Rattle.newick.specs.Newick.{Newick, Frame, Mode, start, sub, name, made, colon, whole, point, tenths, hundredths, branch, done, Run, forbidden, reached, run}
+use Rattle.newick.specs.Newick.{Newick, start, sub, name, made, colon, whole, point, tenths, hundredths, branch, done, Run, forbidden, reached, run}
 use Rattle.newick.specs.Numbering.{tipsIn, times, reach}
 
 -- "2 to 2,048 tips and root age below 2^53 thousandths"; of as many tips as there are, each number below their count is one's (a text has two tips at least,

@@ -1,7 +1,6 @@
 -- Copies and readings as rows of three statements on the definitions: what the writer leaves (`copy-rows`), what texts say and the reader leaves (`read-rows`), and
 -- the places of faults (`place-rows`). Assumes nothing.
 use mathlib.Core.Path.{_≡_, refl}
-use mathlib.Core.Bool.{cond}
 use mathlib.Core.List.{List, [], _∷_, _++_}
 use Prim.Native.Nat.{ℕ}
 use Prim.Native.String.{String}
@@ -16,7 +15,7 @@ use Rattle.tree.specs.New.{validated, judged, scanned, scan, visit, thenAdopt, 
 use Rattle.text.specs.Text.{bytes, digit, decimalIn}
 use Rattle.newick.specs.declared.Copied.the-variants as Copieds
 use Rattle.newick.specs.declared.Taken.the-variants as Takens
-use Rattle.newick.specs.Newick.{Newick, tip, join, numberText, text, wholeText, step, run}
+use Rattle.newick.specs.Newick.{tip, join, numberText, text, wholeText, step, run}
 use Rattle.newick.specs.Numbering.{joins, times, nodeOf, pairsIn, pairsRead, reach, agesIn, agesRead}
 use Rattle.newick.specs.Reading.{acceptable, faulty, says, reading}
 use Rattle.newick.specs.Copies.{aged, agesOf, datedAt, copied, placed, copyCall, taken, readCall, innersIn, upFrom, Closing}

@@ -6,7 +6,7 @@ use native.Mathlib.Nat.{le-of-eq, lt-irrefl, lt-of-le-of-lt, lt-of-lt-of-le, lt-
 use native.Mathlib.Omega.{arith}
 use lib.Dec.{T, ltb→lt, lit<, lit≤}
 use lib.Pow.{pow-add, pow-pos, pow-mono}
-use lib.Ieee.{Float, nan, inf, fin, binary64, fits, lt, ofBits, toBits}
+use lib.Ieee.{Float, binary64, fits, lt, ofBits, toBits}
 use lib.Ieee.Bits.{ofBits-fits, ofBits-toBits}
 use lib.Ieee.Nearest.{div-same}
 use lib.Ieee.Positive.{num, den, den-pos}

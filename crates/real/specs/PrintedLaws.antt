@@ -1,8 +1,8 @@
 -- Laws of printed ages: an age that is printed is finite, and is printed by its whole thousandths (`printable-finite`, `printed-is`); an older age
 -- never prints younger (`printed-order`); and a printed age is below 2 ^ 43 * 1000 thousandths (`printed-few`). Assumes nothing.
-use mathlib.Core.Path.{_≡_, refl, sym, ap, _∙_, subst}
+use mathlib.Core.Path.{_≡_, refl, sym, subst}
 use mathlib.Core.Bool.{Bool, true, false, cond, not, _&&_}
-use Prim.Native.Nat.{ℕ, _+_, _*_, _/_, _^_, _≤_, _<_}
+use Prim.Native.Nat.{ℕ, _+_, _*_, _^_, _≤_, _<_}
 use native.Mathlib.Nat.{le-trans, le-of-eq, lt-of-lt-of-le, mul-right-comm, mul-le-mul-right, mul-lt-mul-of-pos-right, zero-mul, div-lt-iff-lt-mul}
 use native.Mathlib.Omega.{arith}
 use lib.Dec.{T, lit<}
@@ -12,7 +12,7 @@ use lib.Ieee.Positive.{num, den, den-pos}
 use lib.Ieee.Scale.{finite}
 use Rattle.real.specs.Real.{zero}
 use Rattle.real.specs.Printed.{printLimit, Printable, thousandthsOf, printedOf}
-use Rattle.real.specs.CrossLaws.{over, under, Less, Most, lt→less, le→most, nlt→most}
+use Rattle.real.specs.CrossLaws.{over, under, Most, lt→less, le→most, nlt→most}
 use Rattle.real.specs.declared.Printed.the-variants.{Thousandths, Outside}
 
 -- ---- what is printed

@@ -1,10 +1,9 @@
 -- How long the texts of an answer are, and how a text that fits is handed over (`deliver-short`, `deliver-whole`). Assumes nothing.
-use mathlib.Core.Path.{_≡_, refl, sym, ap, _∙_}
-use mathlib.Core.List.{List, _++_}
+use mathlib.Core.Path.{_≡_}
+use mathlib.Core.List.{List}
 use Prim.Native.Nat.{ℕ, _+_, _*_, _≤_, _<_}
-use native.Mathlib.Nat.{zero-add}
 use native.Mathlib.Omega.{arith}
-use lib.ListN.{length, drop, length-append}
+use lib.ListN.{length, length-append}
 use lib.Ieee.{Float}
 use borrow.Author.Tests.{lt-ltb, le-ltb}
 use Rattle.answer.specs.declared.Refusal.{Refusal}
@@ -13,11 +12,10 @@ use Rattle.answer.specs.declared.Moved.{Moved}
 use Rattle.answer.specs.declared.Answer.the-variants as Answers
 use Rattle.answer.specs.Answers.{numberOf, detailOf}
 use Rattle.random.specs.declared.Random.{Random}
-use Rattle.random.specs.Generator.{stateOf}
 use Rattle.text.specs.Text.{bytes, decimalText}
 use Rattle.print.specs.Writing.{written, write}
 use Rattle.print.specs.WritingLaws.{write-whole}
-use Rattle.notation.specs.Notation.{line, comma, stateText, ratioText, pairsText, heightsText}
+use Rattle.notation.specs.Notation.{ratioText, pairsText}
 use Rattle.notation.specs.LengthLaws.{length-comma, length-line, length-state, length-heights}
 use Rattle.report.specs.Report.{drawnText, oddsText, treeText, refusedText, answerText, delivery, delivered}
 
