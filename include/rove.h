@@ -233,7 +233,8 @@ enum { ROVE_LONGEST_ANSWER = 131072 };
 size_t rove_answer(const uint8_t *file, size_t file_len, uint8_t *answer, size_t answer_len);
 
 /* ---- Newick copies: ((0:1.000,1:1.000):1.000,2:2.000); is one. Tips have their numbers, a pair's children stand in their order, and a branch has the
- * difference of its ends' ages in thousandths, each age's rest having been dropped. Slices may be longer than the result: what is past it stays. */
+ * difference of its ends' ages in thousandths, each age's rest having been dropped. Slices may be longer than the result: what is past it stays. Both
+ * functions call themselves once for each level of a tree: that of 2,048 tips with the most levels takes less than 384 KB of stack. */
 
 /* No copy has more bytes; 2,048 tips with 13 digits before the point of every length would have so many. */
 enum { ROVE_LONGEST_NEWICK = 86916 };

@@ -5,6 +5,7 @@ pub mod SubtreeLaws
 pub mod DatesLaws
 pub mod ShapeLaws
 pub mod AcceptedLaws
+pub mod NewLaws
 pub mod ValidatedLaws
 pub mod TipLaws
 pub mod RootLaws

@@ -1,10 +1,9 @@
--- The ways through the copy of a tree: what the writer answered of an accepted one (`handed-copy`), and what `tree::new` said of its pairs and heights
--- (`new-refused`, `new-made`). Assumes nothing.
+-- The ways through the copy of a tree, by what `tree::new` said of its pairs and heights, and what the writer answered of an accepted one (`handed-copy`).
+-- Assumes nothing.
 use mathlib.Core.Path.{_≡_, refl, sym, ap, _∙_}
 use mathlib.Core.Bool.{Bool, true, false, cond}
 use mathlib.Core.List.{List, _++_}
 use Prim.Native.Nat.{ℕ}
-use native.Mathlib.Omega.{arith}
 use borrow.Author.Tests.{eq-eqb, ne-eqb}
 use lib.Dec.{ltb}
 use lib.ListN.{length, drop}
@@ -15,9 +14,10 @@ use Rattle.answer.specs.Answers.{numberOf}
 use Rattle.tree.specs.declared.Rooted.{Rooted}
 use Rattle.tree.specs.declared.Rooted.the-variants as Roots
 use Rattle.tree.specs.Tree.{Tree, nodesOf}
-use Rattle.tree.specs.New.{New, refused, made, newTree, Accepted, NewCall, newAnswered, newCall}
+use Rattle.tree.specs.New.{newTree, Accepted, newCall}
 use Rattle.tree.specs.Given.{treeOf, newGiven}
-use Rattle.accepted.specs.AcceptedLaws.{new-given, accepted-valid}
+use Rattle.accepted.specs.AcceptedLaws.{accepted-valid}
+use Rattle.accepted.specs.NewLaws.{new-refused, new-made}
 use Rattle.accepted.specs.ValidatedLaws.{valid-fine}
 use Rattle.newick.specs.declared.Copied.{Copied}
 use Rattle.newick.specs.declared.Copied.the-variants.{Bytes, Refused}
@@ -75,37 +75,14 @@ module _ (t : Tree) (out : List ℕ) where
 -- r and ps are what `tree::new` answered and the parents after it
 module _ (pairs parents ps : List ℕ) (heights : List Float) (each : length parents ≡ nodesOf pairs) (r : Rooted)
     (e : newGiven r ps ≡ newCall pairs heights parents) where
-  answers : newGiven r ps ≡ newAnswered parents (newTree pairs heights)
-  unfolding newCall
-  answers = rw (eq-eqb (length parents) (nodesOf pairs) each) at e
-
-  new-refused : (why : Refusal) → r ≡ Roots.Refused why → newTree pairs heights ≡ refused why
-  new-refused why y = go (newTree pairs heights) answers
-    where
-      go : (n : New) → newGiven r ps ≡ newAnswered parents n → n ≡ refused why
-      go (refused w) a = let q : r ≡ Roots.Refused w = ap (λ (c : NewCall). c .answer) a in cc
-      go (made t) a = let q : r ≡ Roots.Root (t .root) = ap (λ (c : NewCall). c .answer) a in let z : _≡_ {A = ℕ} 0 1 = cc in absurd (omega arith)
-
-  pub new-made : (root : ℕ) → r ≡ Roots.Root root → newTree pairs heights ≡ made (treeOf pairs ps heights root)
-  new-made root y = go (newTree pairs heights) refl answers
-    where
-      go : (n : New) → newTree pairs heights ≡ n → newGiven r ps ≡ newAnswered parents n → n ≡ made (treeOf pairs ps heights root)
-      go (refused w) m a = let q : r ≡ Roots.Refused w = ap (λ (c : NewCall). c .answer) a in let z : _≡_ {A = ℕ} 0 1 = cc in absurd (omega arith)
-      go (made t) m a =
-          let q : r ≡ Roots.Root (t .root) = ap (λ (c : NewCall). c .answer) a in
-          let f : t .root ≡ root = cc in
-          let g = new-given pairs heights t m in
-          let h : t .parents ≡ ps = sym (ap (λ (c : NewCall). c .parents) a) in
-          ap made (λ i. record { pairs = g .0 i; parents = h i; heights = g .1 i; root = f i })
-
   module _ (out : List ℕ) (d : Delivery) where
     pub tree-refused : (why : Refusal) → r ≡ Roots.Refused why → d ≡ delivered out (refusedText why) → d ≡ delivered out (treeCopy (newTree pairs heights))
     unfolding treeCopy
-    tree-refused why y h = rw (new-refused why y) h
+    tree-refused why y h = rw (new-refused pairs parents ps heights each r e why y) h
 
     pub tree-made : (root : ℕ) → r ≡ Roots.Root root → d ≡ delivered out (copyText (treeOf pairs ps heights root))
         → d ≡ delivered out (treeCopy (newTree pairs heights))
     unfolding treeCopy
-    tree-made root y h = rw (new-made root y) h
+    tree-made root y h = rw (new-made pairs parents ps heights each r e root y) h
 
 pub ruleset treeLaws = (new-made, tree-refused, tree-made)

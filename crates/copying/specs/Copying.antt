@@ -1,5 +1,5 @@
--- What a state file is answered by the program that copies trees: "its tree's Newick text", without a line end, or a refusal "in the listing's form".
--- Definitions only. Assumes nothing.
+-- What comes of a state file whose tree is copied: the Newick text of the tree, without a line end, or a refusal as the listing prints it. Definitions only.
+-- Assumes nothing.
 use mathlib.Core.Bool.{cond}
 use mathlib.Core.List.{List}
 use Prim.Native.Nat.{ℕ}
@@ -21,16 +21,16 @@ agedText t (aged ages) = treeText (t .pairs) (t .root) ages
 unfoldable pub copyText : Tree → List ℕ
 copyText t = agedText t (agesOf (t .heights))
 
--- the tree that the pairs and heights make; "Refusals in the listing's form"
+-- the tree that the pairs and heights make, if they make one
 unfoldable pub treeCopy : New → List ℕ
 treeCopy (refused why) = refusedText why
 treeCopy (made t) = copyText t
 
--- "a copy asks nothing of a file's draws, node and tuning beyond their form": only the tree is looked at
+-- of a file that is of its form only the tree is looked at: nothing is asked of its draws, node and tuning
 unfoldable pub readCopy : Reading → List ℕ
 readCopy (faulty line) = refusedText (Line line)
 readCopy (read state) = treeCopy (newTree (state .pairs) (state .heights))
 
--- "a state file on standard input → its tree's Newick text on standard output"; a file over the limit is refused as 9 with line 0
+-- "0 for over 131,072 bytes": the limit
 unfoldable pub fileCopy : ℕ → List ℕ → List ℕ
 fileCopy limit file = cond (ltb limit (length file)) (refusedText (Line 0)) (readCopy (stateFile file))

@@ -1,2 +1,3 @@
+-- The definitions that the contracts of copying cite.
 pub mod Copying
 pub mod Given

@@ -4,13 +4,13 @@ use mathlib.Core.Path.{_≡_, subst, sym, ap, _∙_}
 use mathlib.Core.List.{List}
 use Prim.Native.Nat.{ℕ, _+_, _*_, _/_, _≤_, _<_}
 use native.Mathlib.Omega.{arith}
-use borrow.Author.Tests.{lt-ltb, le-ltb, le-leb, lt-leb}
+use borrow.Author.Tests.{lt-ltb, le-ltb}
 use lib.ListN.{length, take}
 use lib.Seq.{length-take-le, take-at}
 use lib.Ieee.{Float}
 use Rattle.answer.specs.declared.Refusal.the-variants.{Size, Line}
 use Rattle.tree.specs.Tree.{nodesOf}
-use Rattle.tree.specs.New.{refused, newTree}
+use Rattle.accepted.specs.NewLaws.{new-large}
 use Rattle.statefile.specs.declared.Head.{Head}
 use Rattle.statefile.specs.declared.FileRead.{FileRead}
 use Rattle.statefile.specs.declared.FileRead.the-variants as FileRead
@@ -21,11 +21,6 @@ use Rattle.respond.specs.Respond.{treeReply, stateReply, readReply, file
 use Rattle.respond.specs.declared.Tried.{Tried}
 use Rattle.respond.specs.declared.Tried.the-variants as Tried
 use Rattle.respond.specs.Given.{Lent, Room, nodes, tried}
-
--- a tree of more nodes than any
-new-large : (pairs : List ℕ) (heights : List Float) → 4095 < nodesOf pairs → newTree pairs heights ≡ refused (Size (nodesOf pairs))
-unfolding newTree
-new-large pairs heights h = let g : 3 ≤ nodesOf pairs = omega arith in rw (le-leb 3 (nodesOf pairs) g, lt-leb (nodesOf pairs) 4095 h)
 
 half : (k n : ℕ) → k ≡ 2 * n → k / 2 ≡ n
 half k n e = omega arith

@@ -1,9 +1,7 @@
--- The ways through the answer of a state: what `tree::new` said of its tree (`new-refused`, `new-made`), and the text that is put. Assumes nothing.
-use mathlib.Core.Path.{_≡_, refl, sym, ap, _∙_}
+-- The ways through the answer of a state, by what `tree::new` said of its tree. Assumes nothing.
+use mathlib.Core.Path.{_≡_, ap, _∙_}
 use mathlib.Core.List.{List}
 use Prim.Native.Nat.{ℕ}
-use native.Mathlib.Omega.{arith}
-use borrow.Author.Tests.{eq-eqb}
 use lib.ListN.{length}
 use lib.Ieee.{Float}
 use Rattle.answer.specs.declared.Refusal.{Refusal}
@@ -12,9 +10,9 @@ use Rattle.random.specs.Generator.{fromState}
 use Rattle.tree.specs.declared.Rooted.{Rooted}
 use Rattle.tree.specs.declared.Rooted.the-variants as Roots
 use Rattle.tree.specs.Tree.{nodesOf}
-use Rattle.tree.specs.New.{New, refused, made, newTree, NewCall, newAnswered, newCall}
+use Rattle.tree.specs.New.{made, newTree, newCall}
 use Rattle.tree.specs.Given.{treeOf, newGiven}
-use Rattle.accepted.specs.AcceptedLaws.{new-given}
+use Rattle.accepted.specs.NewLaws.{new-refused, new-made}
 use Rattle.calls.specs.declared.Answered.{Answered}
 use Rattle.calls.specs.Call.{Called, called}
 use Rattle.moves.specs.Moves.{UnvalidatedCall}
@@ -24,33 +22,6 @@ use Rattle.report.specs.Few.{Few}
 use Rattle.report.specs.Report.{refusedText, answerText, calledText, Delivery, delivered}
 use Rattle.respond.specs.Respond.{treeReply, stateReply}
 use Rattle.respond.specs.Given.{nodes}
-
--- ---- the tree
-
--- r and ps are what `tree::new` answered and the parents after it
-module _ (pairs parents ps : List ℕ) (heights : List Float) (each : length parents ≡ nodesOf pairs) (r : Rooted) (e : newGiven r ps ≡ newCall pairs heights parents) where
-  answers : newGiven r ps ≡ newAnswered parents (newTree pairs heights)
-  unfolding newCall
-  answers = rw (eq-eqb (length parents) (nodesOf pairs) each) at e
-
-  pub new-refused : (why : Refusal) → r ≡ Roots.Refused why → newTree pairs heights ≡ refused why
-  new-refused why y = go (newTree pairs heights) answers
-    where
-      go : (n : New) → newGiven r ps ≡ newAnswered parents n → n ≡ refused why
-      go (refused w) a = let q : r ≡ Roots.Refused w = ap (λ (c : NewCall). c .answer) a in cc
-      go (made t) a = let q : r ≡ Roots.Root (t .root) = ap (λ (c : NewCall). c .answer) a in let z : _≡_ {A = ℕ} 0 1 = cc in absurd (omega arith)
-
-  pub new-made : (root : ℕ) → r ≡ Roots.Root root → newTree pairs heights ≡ made (treeOf pairs ps heights root)
-  new-made root y = go (newTree pairs heights) refl answers
-    where
-      go : (n : New) → newTree pairs heights ≡ n → newGiven r ps ≡ newAnswered parents n → n ≡ made (treeOf pairs ps heights root)
-      go (refused w) m a = let q : r ≡ Roots.Refused w = ap (λ (c : NewCall). c .answer) a in let z : _≡_ {A = ℕ} 0 1 = cc in absurd (omega arith)
-      go (made t) m a =
-          let q : r ≡ Roots.Root (t .root) = ap (λ (c : NewCall). c .answer) a in
-          let f : t .root ≡ root = cc in
-          let g = new-given pairs heights t m in
-          let h : t .parents ≡ ps = sym (ap (λ (c : NewCall). c .parents) a) in
-          ap made (λ i. record { pairs = g .0 i; parents = h i; heights = g .1 i; root = f i })
 
 -- the slices keep their lengths
 pub few-kept : (pairs : List ℕ) (heights : List Float) → Few pairs heights → (ps : List ℕ) → length ps ≡ length pairs → (hs : List Float) → length hs ≡ length heights
