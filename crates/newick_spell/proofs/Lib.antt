@@ -2,3 +2,5 @@ mod SpotLaws
 mod SideLaws
 mod MoveLaws
 mod TurnLaws
+mod TokenLaws
+mod PassLaws

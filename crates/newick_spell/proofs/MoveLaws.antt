@@ -3,7 +3,7 @@
 use mathlib.Core.Path.{_≡_, refl, sym, ap, _∙_, subst}
 use mathlib.Core.Bool.{Bool, true, false}
 use mathlib.Core.List.{List, [], _∷_}
-use Prim.Native.Nat.{ℕ, suc, _+_, _-_, _*_, _≤_, _<_}
+use Prim.Native.Nat.{ℕ, suc, _+_, _-_, _*_, _<_}
 use native.Mathlib.Omega.{arith}
 use native.Mathlib.Numerals.{add-one}
 use lib.Dec.{eqb}
@@ -107,26 +107,25 @@ module _ {b : ℕ} {r : List ℕ} {d : ℕ} {side : Bool} {l : List Bool} where
   knows-open (closes e) h K = absurd (omega arith)
   knows-open (stays g e) h K = absurd (omega arith)
 
-  pub knows-close : {m m′ : Mode} {fs fs′ : List Frame} → Moved b m fs m′ fs′ → b ≤ 44 → (b ≡ 44 → ⊥) → (b ≡ 40 → ⊥) → Knows r m fs d side l
-      → Knows (b ∷ r) m′ fs′ (d - 1) (commaUnder 0 r) l
-  knows-close (opens g e) h p q K = absurd (q e)
-  knows-close (turns e) h p q K = absurd (p e)
-  knows-close (closes {fs = gs} {a = a} {y = y} e) h p q K = let z : d ≡ suc (length gs) = K .depth in record {
+  pub knows-close : {m m′ : Mode} {fs fs′ : List Frame} → Moved b m fs m′ fs′ → b ≡ 41 → Knows r m fs d side l → Knows (b ∷ r) m′ fs′ (d - 1) (commaUnder 0 r) l
+  knows-close (opens g e) h K = absurd (omega arith)
+  knows-close (turns e) h K = absurd (omega arith)
+  knows-close (closes {fs = gs} {a = a} {y = y} e) h K = let z : d ≡ suc (length gs) = K .depth in record {
     depth = omega arith;
     side = K .told 0;
     told = told-close b r gs (second a y) e (K .told);
     kept = K .kept .1;
     begun = tt;
   }
-  knows-close (stays g e) h p q K = absurd (omega arith)
+  knows-close (stays g e) h K = absurd (omega arith)
 
   -- one was open, and a list that has room for its side has the side around it
-  pub closes-one : {m m′ : Mode} {fs fs′ : List Frame} → Moved b m fs m′ fs′ → b ≤ 44 → (b ≡ 44 → ⊥) → (b ≡ 40 → ⊥) → Knows r m fs d side l
+  pub closes-one : {m m′ : Mode} {fs fs′ : List Frame} → Moved b m fs m′ fs′ → b ≡ 41 → Knows r m fs d side l
       → (0 < d) × (d - 1 < length l → getD l (d - 1) false ≡ commaUnder 0 r)
-  closes-one (opens g e) h p q K = absurd (q e)
-  closes-one (turns e) h p q K = absurd (p e)
-  closes-one (closes {fs = gs} e) h p q K =
+  closes-one (opens g e) h K = absurd (omega arith)
+  closes-one (turns e) h K = absurd (omega arith)
+  closes-one (closes {fs = gs} e) h K =
       let z : d ≡ suc (length gs) = K .depth in
       let o : d - 1 ≡ length gs = omega arith in
       (omega arith, λ j. ap (λ (i : ℕ). getD l i false) o ∙ K .kept .0 (subst (λ (i : ℕ). i < length l) o j) ∙ sym (K .told 0))
-  closes-one (stays g e) h p q K = absurd (omega arith)
+  closes-one (stays g e) h K = absurd (omega arith)

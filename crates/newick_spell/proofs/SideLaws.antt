@@ -75,14 +75,10 @@ set-past [] i x h = refl
 set-past (y ∷ l) zero x h = absurd (omega arith)
 set-past (y ∷ l) (suc i) x h = ap (λ (m : List Bool). y ∷ m) (set-past l i x (omega arith))
 
-module _ (s : List ℕ) (at outer : ℕ) (l : List Bool) (h : Closes s at outer l) where
-  pub closes-place : at ≤ length s
-  closes-place = h .place
+pub closes-kept : (s : List ℕ) (at outer : ℕ) (l : List Bool) → Closes s at outer l → outer < length l → getD l outer false ≡ commaBefore s at
+closes-kept s at outer l h = h .kept
 
-  pub closes-kept : outer < length l → getD l outer false ≡ commaBefore s at
-  closes-kept = h .kept
-
-pub ruleset keepLaws = (set-past, closes-place, closes-kept)
+pub ruleset keepLaws = (set-past, closes-kept)
 
 -- ---- a byte that opens or closes a parenthesis
 

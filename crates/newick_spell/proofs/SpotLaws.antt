@@ -1,54 +1,23 @@
--- Where a byte leads: the ways through the code of `next` and of what it calls (`spotLaws`), and that a byte leads a reader with values to the same spot
--- (`erased`). Assumes nothing.
+-- Where a byte leads: that it leads a reader with values to the same spot (`erased`), and what the end of a text tells of one there (`at-end`). Assumes
+-- nothing.
 use mathlib.Core.Path.{_≡_, refl, sym, ap, _∙_}
 use mathlib.Core.Bool.{Bool, true, false, cond, false≢true}
 use mathlib.Core.List.{List, [], _∷_}
-use Prim.Native.Nat.{ℕ, _+_, _-_, _*_, _≤_, _<_}
+use Prim.Native.Nat.{ℕ, _+_, _-_, _*_}
 use native.Mathlib.Omega.{arith}
 use native.Mathlib.Decide.{ℕ-discrete}
-use lib.Dec.{leb, eqb}
-use borrow.Author.Tests.{le-leb, lt-leb, eq-eqb, ne-eqb}
+use lib.Dec.{eqb}
+use borrow.Author.Tests.{eq-eqb, ne-eqb}
 use Rattle.text.specs.Rules.{isDecimal}
 use Rattle.text.specs.DigitLaws.{decimal-within, decimal-is}
 use Rattle.newick.specs.Newick.{tip, join, Frame, first, second, Mode, start, sub, name, made, colon, whole, point, tenths, hundredths, branch, done}
-use Rattle.newick.specs.Newick.{Step, stuck, to, on, orElse, onMore, step}
+use Rattle.newick.specs.Newick.{Step, stuck, to, on, orElse, onMore, step, reached}
 use Rattle.newick.specs.Newick as Newick
 use Rattle.newick.specs.PlaceLaws.{Fine}
-use Rattle.newick_spell.specs.declared.Spot.{Spot}
-use Rattle.newick_spell.specs.declared.Spot.the-variants as Spots
-use Rattle.newick_spell.specs.declared.Led.{Led}
-use Rattle.newick_spell.specs.declared.Led.the-variants.{To, Stuck}
-use Rattle.newick_spell.specs.Spots.{only, onDigit, nextSpot, spotOf, ledBy}
+use Rattle.newick_spell.specs.declared.Spelling.the-variants.{Unfinished}
+use Rattle.newick_spell.specs.Spelling.{spellingIn}
+use Rattle.newick_spell.specs.Spots.{Spot, Sub, Zero, Name, Colon, Nought, Whole, Point, Led, To, Stuck, only, onDigit, nextSpot, spotOf, ledBy, endOf}
 use Rattle.newick_spell.specs.Stands.{isSecond}
-
--- ---- the ways through the code
-
-pub decimal-high : (b : ℕ) → 48 ≤ b → leb b 57 ≡ isDecimal b
-decimal-high b h = rw (le-leb 48 b h)
-
-pub decimal-low : (b : ℕ) → b < 48 → leb 48 b ≡ isDecimal b
-decimal-low b h = rw (lt-leb 48 b h)
-
-module _ (x y r : Led) where
-  pub if-so : (t : Bool) → t ≡ true → r ≡ x → r ≡ cond t x y
-  if-so t e h = rw e h
-
-  pub if-not : (t : Bool) → t ≡ false → r ≡ y → r ≡ cond t x y
-  if-not t e h = rw e h
-
-  pub if-same : (b c : ℕ) → b ≡ c → r ≡ x → r ≡ cond (eqb b c) x y
-  if-same b c e h = rw (eq-eqb b c e) h
-
-  pub if-other : (b c : ℕ) → (b ≡ c → ⊥) → r ≡ y → r ≡ cond (eqb b c) x y
-  if-other b c e h = rw (ne-eqb b c e) h
-
-  pub if-told : (t u : Bool) → t ≡ u → r ≡ cond t x y → r ≡ cond u x y
-  if-told t u e h = h ∙ ap (λ (v : Bool). cond v x y) e
-
-pub in-arm : (spot x : Spot) (side over : Bool) (b : ℕ) (r : Led) → spot ≡ x → r ≡ nextSpot x side over b → r ≡ nextSpot spot side over b
-in-arm spot x side over b r e h = rw e h
-
-pub ruleset spotLaws = (decimal-high, decimal-low, if-so, if-not, if-same, if-other, if-told, in-arm)
 
 -- ---- a reader with values
 
@@ -100,22 +69,22 @@ unfolding step nextSpot
 erased start fs b h = led-on (eqb b 40) sub (first ∷ fs)
 erased sub fs b h =
     led-or (eqb b 40) (to sub (first ∷ fs)) (Newick.onDigit b name fs)
-    ∙ ap (cond (eqb b 40) (To Spots.Sub)) (led-on (isDecimal b) (name (b - 48)) fs ∙ first-digit b Spots.Zero Spots.Name)
+    ∙ ap (cond (eqb b 40) (To Sub)) (led-on (isDecimal b) (name (b - 48)) fs ∙ first-digit b Zero Name)
 erased (name k) fs b h =
     led-or (eqb b 58) (to (colon (tip k)) fs) (onMore k b name fs)
-    ∙ ap (cond (eqb b 58) (To Spots.Colon)) (led-or (eqb k 0) stuck (Newick.onDigit b (λ d. name (k * 10 + d)) fs)
+    ∙ ap (cond (eqb b 58) (To Colon)) (led-or (eqb k 0) stuck (Newick.onDigit b (λ d. name (k * 10 + d)) fs)
     ∙ ap (cond (eqb k 0) Stuck) (led-on (isDecimal b) (name (k * 10 + (b - 48))) fs))
-    ∙ more-digit b k (To Spots.Colon) Spots.Zero Spots.Name (eqb b 58)
-    ∙ sym (by-number (eqb k 0) Spots.Zero Spots.Name (isSecond fs) (isOver fs) b)
+    ∙ more-digit b k (To Colon) Zero Name (eqb b 58)
+    ∙ sym (by-number (eqb k 0) Zero Name (isSecond fs) (isOver fs) b)
 erased (made t) [] b h = led-on (eqb b 59) (done t) []
 erased (made t) (f ∷ fs) b h = led-on (eqb b 58) (colon t) (f ∷ fs)
-erased (colon t) fs b h = led-on (isDecimal b) (whole t (b - 48)) fs ∙ first-digit b Spots.Nought Spots.Whole
+erased (colon t) fs b h = led-on (isDecimal b) (whole t (b - 48)) fs ∙ first-digit b Nought Whole
 erased (whole t w) fs b h =
     led-or (eqb b 46) (to (point t w) fs) (onMore w b (whole t) fs)
-    ∙ ap (cond (eqb b 46) (To Spots.Point)) (led-or (eqb w 0) stuck (Newick.onDigit b (λ d. whole t (w * 10 + d)) fs)
+    ∙ ap (cond (eqb b 46) (To Point)) (led-or (eqb w 0) stuck (Newick.onDigit b (λ d. whole t (w * 10 + d)) fs)
     ∙ ap (cond (eqb w 0) Stuck) (led-on (isDecimal b) (whole t (w * 10 + (b - 48))) fs))
-    ∙ more-digit b w (To Spots.Point) Spots.Nought Spots.Whole (eqb b 46)
-    ∙ sym (by-number (eqb w 0) Spots.Nought Spots.Whole (isSecond fs) (isOver fs) b)
+    ∙ more-digit b w (To Point) Nought Whole (eqb b 46)
+    ∙ sym (by-number (eqb w 0) Nought Whole (isSecond fs) (isOver fs) b)
 erased (point t w) fs b h = led-on (isDecimal b) (tenths t (w * 10 + (b - 48))) fs
 erased (tenths t w) fs b h = led-on (isDecimal b) (hundredths t (w * 10 + (b - 48))) fs
 erased (hundredths t w) fs b h = led-on (isDecimal b) (branch t (w * 10 + (b - 48))) fs
@@ -123,3 +92,24 @@ erased (branch t x) [] b h = absurd h
 erased (branch t x) (first ∷ fs) b h = led-on (eqb b 44) sub (second t x ∷ fs)
 erased (branch t x) (second a y ∷ fs) b h = led-on (eqb b 41) (made (join a y t x)) fs
 erased (done t) fs b h = refl
+
+pub at-end : (m : Mode) (fs : List Frame) (long : ℕ) → spellingIn long (reached m fs) ≡ endOf (spotOf m)
+at-end start fs long = refl
+at-end sub fs long = refl
+at-end (name k) fs long = go (eqb k 0)
+  where
+    go : (t : Bool) → Unfinished ≡ endOf (cond t Zero Name)
+    go true = refl
+    go false = refl
+at-end (made t) fs long = refl
+at-end (colon t) fs long = refl
+at-end (whole t w) fs long = go (eqb w 0)
+  where
+    go : (t : Bool) → Unfinished ≡ endOf (cond t Nought Whole)
+    go true = refl
+    go false = refl
+at-end (point t w) fs long = refl
+at-end (tenths t w) fs long = refl
+at-end (hundredths t w) fs long = refl
+at-end (branch t x) fs long = refl
+at-end (done t) fs long = refl

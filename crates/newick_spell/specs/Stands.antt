@@ -7,11 +7,8 @@ use lib.Dec.{eqb}
 use lib.ListN.{length, getD, drop}
 use Rattle.newick.specs.Newick.{Frame, first, second, Mode, start, sub, name, made, colon, whole, point, tenths, hundredths, branch, done, run, sign}
 use Rattle.newick.specs.PlaceLaws.{Fine}
-use Rattle.newick_spell.specs.declared.Spot.{Spot}
-use Rattle.newick_spell.specs.declared.Led.the-variants.{To}
-use Rattle.newick_spell.specs.declared.Scan.{Scan}
 use Rattle.newick_spell.specs.Spelling.{spellingIn, spellingOf}
-use Rattle.newick_spell.specs.Spots.{nextSpot, spotOf}
+use Rattle.newick_spell.specs.Spots.{Spot, spotOf}
 
 -- ---- sides
 
@@ -73,21 +70,15 @@ pub record Knows (r : List ℕ) (m : Mode) (fs : List Frame) (d : ℕ) (at-secon
   pub begun : Begun m r fs
 
 -- before byte `at` of s it stands where a reader does whose run over the rest tells the spelling of the whole
-pub record Stands (s : List ℕ) (at : ℕ) (q : Scan) (l : List Bool) : Type 0 where
+pub record Stands (s : List ℕ) (at : ℕ) (p : Spot) (d : ℕ) (at-second : Bool) (l : List Bool) : Type 0 where
   pub mode : Mode
   pub frames : List Frame
-  pub spot : q .spot ≡ spotOf mode
-  pub knows : Knows (back at s) mode frames (q .depth) (q .side) l
+  pub spot : p ≡ spotOf mode
+  pub knows : Knows (back at s) mode frames d at-second l
   pub fine : Fine mode frames
   pub place : at ≤ length s
-  pub deep : q .depth ≤ at
+  pub deep : d ≤ at
   pub rest : spellingIn (length s) (run mode frames (drop at s)) ≡ spellingOf s
-
--- and the byte there leads on to a spot
-pub record Turns (s : List ℕ) (at : ℕ) (led : Spot) (q : Scan) (l : List Bool) : Type 0 where
-  pub stands : Stands s at q l
-  pub inside : at < length s
-  pub leads : To led ≡ nextSpot (q .spot) (q .side) (eqb (q .depth) 0) (getD s at 0)
 
 -- of a parenthesis that closes at `at` with so many open around it, a list that has room for its side has that
 pub record Closes (s : List ℕ) (at outer : ℕ) (l : List Bool) : Type 0 where

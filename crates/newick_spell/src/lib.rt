@@ -1,16 +1,15 @@
-// Whether a text of any length and depth is spelled as a Newick copy is, or the place of the first byte that the spelling forbids. One pass over the bytes,
+// Whether a text of any length and depth is spelled as a Newick copy is, or the place of the first byte that the spelling forbids. One pass over the tokens,
 // without values: it knows where it stands, how many parentheses are open, and whether the innermost is at its second subtree. The same of those around it is
 // kept in an array as far as that goes; of those further in, the byte before the inner parenthesis tells it, for which the pass goes back in the text. Assumes
 // nothing.
-ghost use mathlib.Core.Bool.{false, cond};
+ghost use mathlib.Core.Bool.{true, false};
 ghost use mathlib.Core.Path.{_≡_};
-ghost use Prim.Native.Nat.{_+_, _≤_};
-ghost use lib.Dec.{eqb};
+ghost use Prim.Native.Nat.{_≤_};
 ghost use lib.ListN.{length, set};
-ghost use Rattle.text.specs.Rules.{isDecimal};
 ghost use Rattle.newick_spell.specs.Spelling.{spellingOf};
-ghost use Rattle.newick_spell.specs.Spots.{only, onDigit, nextSpot};
-ghost use Rattle.newick_spell.specs.Stands.{commaBefore, Turns, Closes, Stands};
+ghost use Rattle.newick_spell.specs.Spots.{Branch, Colon, Point, Sub};
+ghost use Rattle.newick_spell.specs.Stands.{commaBefore, Closes, Stands};
+ghost use Rattle.newick_spell.specs.Tokens.{isSign, isDigit, stopped, Skips, NumberFrom, Ends, AtPoint, AtColon, AtTip, Finishes, Reaches};
 
 // What the pass answers: the place of the first forbidden byte; or that only the end is missing; or that nothing is.
 pub enum Spelling {
@@ -19,116 +18,126 @@ pub enum Spelling {
     Spelled,
 }
 
-// Where a reader stands, as Newick.antt has it without the values: but in a number that is 0, as Zero in a name and Nought in a length, where no digit may
-// follow.
-enum Spot {
-    Start,
-    Sub,
-    Zero,
-    Name,
-    Made,
-    Colon,
-    Nought,
-    Whole,
-    Point,
-    Tenths,
-    Hundredths,
-    Branch,
-    Done,
-}
-
-// Where a byte leads.
-enum Led {
-    To(Spot),
-    Stuck,
+// Where a token ends, or the place where it breaks off.
+enum Went {
+    To(usize),
+    Not(usize),
 }
 
 // Where the pass stands, with how many parentheses open, and whether the innermost is at its second subtree.
 struct Scan {
-    spot: Spot,
+    at: usize,
     depth: usize,
     side: bool,
 }
 
-// ---- where a byte leads
-
-fn is_decimal(b: u8) -> bool
-    ensures { λ r. ⌜ r ≡ isDecimal b ⌝ }
-{
-    b'0' <= b && b <= b'9'
+// Where a part of the pass leads, or what it answers.
+enum Passed {
+    To(Scan),
+    Is(Spelling),
 }
 
-// One spot, or none.
-fn only(test: bool, spot: Spot) -> Led
-    ensures { λ r. ⌜ r ≡ only test spot ⌝ }
+// ---- tokens
+
+// Whether a byte stands at `at`, and is the sign.
+fn is_sign(text: &[u8], at: usize, sign: u8) -> bool
+    ensures { λ r. ⌜ r ≡ isSign (now (text .entry)) at sign ⌝ }
 {
-    if test {
-        return Led::To(spot);
+    if at < text.len() {
+        return text[at] == sign;
     }
-    Led::Stuck
+    false
 }
 
-fn on_digit(b: u8, spot: Spot) -> Led
-    ensures { λ r. ⌜ r ≡ onDigit b spot ⌝ }
+// Whether a byte stands at `at`, and is a digit.
+fn is_digit(text: &[u8], at: usize) -> bool
+    ensures { λ r. ⌜ r ≡ isDigit (now (text .entry)) at ⌝ }
 {
-    only(is_decimal(b), spot)
-}
-
-// One sign, or else a digit.
-fn on_sign_or_digit(b: u8, sign: u8, spot: Spot, other: Spot) -> Led
-    ensures { λ r. ⌜ r ≡ cond (eqb b sign) (Led.To spot) (onDigit b other) ⌝ }
-{
-    if b == sign {
-        return Led::To(spot);
+    if at < text.len() {
+        return text::is_decimal(text[at]);
     }
-    on_digit(b, other)
+    false
 }
 
-fn after_sub(b: u8) -> Led
-    ensures { λ r. ⌜ r ≡ nextSpot Spot.Sub false false b ⌝ }
+// Behind the digits.
+fn skip_digits(text: &[u8], from: usize) -> usize
+    ensures { λ r. ⌜ Skips (now (text .entry)) from r ⌝ }
 {
-    if b == b'(' {
-        return Led::To(Spot::Sub);
+    let mut at = from;
+    while is_digit(text, at) {
+        at += 1;
     }
-    on_sign_or_digit(b, b'0', Spot::Zero, Spot::Name)
+    at
 }
 
-fn after_made(over: bool, b: u8) -> Led
-    ensures { λ r. ⌜ r ≡ nextSpot Spot.Made false over b ⌝ }
+// A number without leading zeros.
+fn pass_number(text: &[u8], at: usize) -> Went
+    ensures { λ r. ⌜ NumberFrom (now (text .entry)) at r ⌝ }
 {
-    if over {
-        return only(b == b';', Spot::Done);
+    if is_sign(text, at, b'0') {
+        return Went::To(at + 1);
     }
-    only(b == b':', Spot::Colon)
-}
-
-fn after_branch(side: bool, b: u8) -> Led
-    ensures { λ r. ⌜ r ≡ nextSpot Spot.Branch side false b ⌝ }
-{
-    if side {
-        return only(b == b')', Spot::Made);
+    if is_digit(text, at) {
+        return Went::To(skip_digits(text, at + 1));
     }
-    only(b == b',', Spot::Sub)
+    Went::Not(at)
 }
 
-// Where a byte leads from a spot, by the side and by whether no parenthesis is open.
-fn next(spot: Spot, side: bool, over: bool, b: u8) -> Led
-    ensures { λ r. ⌜ r ≡ nextSpot spot side over b ⌝ }
+// Three decimals.
+fn pass_decimals(text: &[u8], at: usize) -> Went
+    ensures { λ r. ⌜ Ends (now (text .entry)) at r (Stands (now (text .entry)) at Point) ⌝ }
 {
-    match spot {
-        Spot::Start => only(b == b'(', Spot::Sub),
-        Spot::Sub => after_sub(b),
-        Spot::Zero => only(b == b':', Spot::Colon),
-        Spot::Name => on_sign_or_digit(b, b':', Spot::Colon, Spot::Name),
-        Spot::Made => after_made(over, b),
-        Spot::Colon => on_sign_or_digit(b, b'0', Spot::Nought, Spot::Whole),
-        Spot::Nought => only(b == b'.', Spot::Point),
-        Spot::Whole => on_sign_or_digit(b, b'.', Spot::Point, Spot::Whole),
-        Spot::Point => on_digit(b, Spot::Tenths),
-        Spot::Tenths => on_digit(b, Spot::Hundredths),
-        Spot::Hundredths => on_digit(b, Spot::Branch),
-        Spot::Branch => after_branch(side, b),
-        Spot::Done => Led::Stuck,
+    if is_digit(text, at) {
+        let second = at + 1;
+        if is_digit(text, second) {
+            let third = second + 1;
+            if is_digit(text, third) {
+                return Went::To(third + 1);
+            }
+            return Went::Not(third);
+        }
+        return Went::Not(second);
+    }
+    Went::Not(at)
+}
+
+// A point and three decimals.
+fn pass_fraction(text: &[u8], at: usize) -> Went
+    ensures { λ r. ⌜ Ends (now (text .entry)) at r (AtPoint (now (text .entry)) at) ⌝ }
+{
+    if is_sign(text, at, b'.') {
+        return pass_decimals(text, at + 1);
+    }
+    Went::Not(at)
+}
+
+// A length: a number and its fraction.
+fn pass_length(text: &[u8], at: usize) -> Went
+    ensures { λ r. ⌜ Ends (now (text .entry)) at r (Stands (now (text .entry)) at Colon) ⌝ }
+{
+    match pass_number(text, at) {
+        Went::To(e) => pass_fraction(text, e),
+        Went::Not(x) => Went::Not(x),
+    }
+}
+
+// A colon and a length.
+fn pass_branch(text: &[u8], at: usize) -> Went
+    ensures { λ r. ⌜ Ends (now (text .entry)) at r (AtColon (now (text .entry)) at) ⌝ }
+{
+    if is_sign(text, at, b':') {
+        return pass_length(text, at + 1);
+    }
+    Went::Not(at)
+}
+
+// A tip's number and its branch.
+fn pass_tip(text: &[u8], at: usize) -> Went
+    ensures { λ r. ⌜ Ends (now (text .entry)) at r (AtTip (now (text .entry)) at) ⌝ }
+{
+    match pass_number(text, at) {
+        Went::To(e) => pass_branch(text, e),
+        Went::Not(x) => Went::Not(x),
     }
 }
 
@@ -181,68 +190,145 @@ fn keep(sides: &mut [bool], depth: usize, side: bool)
 
 // ---- the pass
 
-// One byte, which leads to `spot`. Only a parenthesis or a comma changes what is open, and of the bytes that lead on these are the ones up to the comma.
-fn turn(text: &[u8], at: usize, spot: Spot, q: Scan, sides: &mut [bool]) -> Scan
-    requires { ⌜ Turns (now text) at spot q (now sides) ⌝ }
-    ensures { λ r. ⌜ Stands (now (text .entry)) (at + 1) r (now (sides .exit)) ⌝ }
+// The answer where no byte of those that lead on stands.
+fn stop(text: &[u8], at: usize) -> Spelling
+    ensures { λ r. ⌜ r ≡ stopped (now (text .entry)) at ⌝ }
 {
-    let b = text[at];
-    let depth = q.depth;
-    let side = q.side;
-    if b',' < b {
-        return Scan {
-            spot: spot,
-            depth: depth,
-            side: side,
-        };
+    if at < text.len() {
+        return Spelling::Forbidden(at);
     }
-    if b == b',' {
-        return Scan {
-            spot: spot,
-            depth: depth,
+    Spelling::Unfinished
+}
+
+// Behind the last parenthesis.
+fn spell_end(text: &[u8], at: usize) -> Spelling
+    ensures { λ r. ⌜ Finishes (now (text .entry)) at r ⌝ }
+{
+    if is_sign(text, at, b';') {
+        let after = at + 1;
+        if after < text.len() {
+            return Spelling::Forbidden(after);
+        }
+        return Spelling::Spelled;
+    }
+    stop(text, at)
+}
+
+// Behind a second subtree: its parenthesis, and the branch above that.
+fn close_one(text: &[u8], q: Scan, sides: &[bool]) -> Passed
+    requires { ⌜ Stands (now text) (q .at) Branch (q .depth) true (now sides) ⌝ }
+    ensures { λ r. ⌜ Reaches (now (text .entry)) (q .at) r Branch (now (sides .entry)) ⌝ }
+{
+    let at = q.at;
+    if is_sign(text, at, b')') {
+        let outer = q.depth - 1;
+        if outer == 0 {
+            return Passed::Is(spell_end(text, at + 1));
+        }
+        let around = side_around(text, at, outer, sides);
+        match pass_branch(text, at + 1) {
+            Went::To(e) => {
+                return Passed::To(Scan {
+                    at: e,
+                    depth: outer,
+                    side: around,
+                });
+            }
+            Went::Not(x) => {
+                return Passed::Is(stop(text, x));
+            }
+        }
+    }
+    Passed::Is(stop(text, at))
+}
+
+// Behind a subtree: all that it ends, and a comma.
+fn close_all(text: &[u8], from: Scan, sides: &[bool]) -> Passed
+    requires { ⌜ Stands (now text) (from .at) Branch (from .depth) (from .side) (now sides) ⌝ }
+    ensures { λ r. ⌜ Reaches (now (text .entry)) (from .at) r Sub (now (sides .entry)) ⌝ }
+{
+    let mut q = from;
+    while q.side {
+        match close_one(text, q, sides) {
+            Passed::To(to) => {
+                q = to;
+            }
+            Passed::Is(told) => {
+                return Passed::Is(told);
+            }
+        }
+    }
+    let end = q.at;
+    let after = end + 1;
+    if is_sign(text, end, b',') {
+        return Passed::To(Scan {
+            at: after,
+            depth: q.depth,
             side: true,
-        };
+        });
     }
-    if b == b'(' {
-        keep(&mut *sides, depth, side);
-        return Scan {
-            spot: spot,
-            depth: depth + 1,
-            side: false,
-        };
-    }
-    let outer = depth - 1;
-    let around = side_around(text, at, outer, sides);
-    Scan {
-        spot: spot,
-        depth: outer,
-        side: around,
+    Passed::Is(stop(text, end))
+}
+
+// From a tip to the next subtree.
+fn pass_subtree(text: &[u8], q: Scan, sides: &[bool]) -> Passed
+    requires { ⌜ AtTip (now text) (q .at) (q .depth) (q .side) (now sides) ⌝ }
+    ensures { λ r. ⌜ Reaches (now (text .entry)) (q .at) r Sub (now (sides .entry)) ⌝ }
+{
+    match pass_tip(text, q.at) {
+        Went::To(e) => close_all(
+            text,
+            Scan {
+                at: e,
+                depth: q.depth,
+                side: q.side,
+            },
+            sides,
+        ),
+        Went::Not(x) => Passed::Is(stop(text, x)),
     }
 }
 
-fn spell_with(text: &[u8], sides: &mut [bool]) -> Spelling
+// Behind the first parenthesis.
+fn spell_inside(text: &[u8], sides: &mut [bool]) -> Spelling
+    requires { ⌜ Stands (now text) 1 Sub 1 false (now sides) ⌝ }
     ensures { λ r. ⌜ r ≡ spellingOf (now (text .entry)) ⌝ }
 {
     let mut q = Scan {
-        spot: Spot::Start,
-        depth: 0,
+        at: 1,
+        depth: 1,
         side: false,
     };
-    let mut at = 0;
-    while at < text.len() {
-        let after = at + 1;
-        let from = q.spot;
-        let Led::To(spot) = next(from, q.side, q.depth == 0, text[at]) else {
-            return Spelling::Forbidden(at);
-        };
-        q = turn(text, at, spot, q, &mut *sides);
-        at = after;
+    loop {
+        if is_sign(text, q.at, b'(') {
+            keep(&mut *sides, q.depth, q.side);
+            q = Scan {
+                at: q.at + 1,
+                depth: q.depth + 1,
+                side: false,
+            };
+        } else {
+            match pass_subtree(text, q, sides) {
+                Passed::To(to) => {
+                    q = to;
+                }
+                Passed::Is(told) => {
+                    return told;
+                }
+            }
+        }
     }
-    let last = q.spot;
-    if let Spot::Done = last {
-        return Spelling::Spelled;
+}
+
+// The whole text, whatever the array holds before.
+fn spell_with(text: &[u8], sides: &mut [bool]) -> Spelling
+    ensures { λ r. ⌜ r ≡ spellingOf (now (text .entry)) ⌝ }
+{
+    if is_sign(text, 0, b'(') {
+        keep(&mut *sides, 0, false);
+        return spell_inside(text, &mut *sides);
     }
-    Spelling::Unfinished
+    stop(text, 0)
 }
 
 // As many sides as a text of 2,048 tips can have parentheses open, and one more.

@@ -11,10 +11,10 @@ returns : tie.Need-returns
 returns c = search (keepLaws, needs)
 
 comma-before-requires : tie.Need-comma-before-requires
-comma-before-requires c κs = search (keepLaws, needs)
+comma-before-requires c κs = search needs
 
 returns-2 : tie.Need-returns-2
-returns-2 c = search (keepLaws, needs)
+returns-2 c = search needs
 
 pub side-around-spec : {M : Type 1} → statement M
 side-around-spec =
