@@ -12,7 +12,7 @@ use Rattle.answer.specs.declared.Answer.the-variants as Answers
 use Rattle.answer.specs.declared.Proposal.{Proposal}
 use Rattle.answer.specs.declared.Proposal.the-variants as Proposals
 
--- ---- refusals, by the table of "How a call is turned back" and by change request S-1
+-- ---- refusals, by the table of "How a call is turned back"
 
 abbrev pub numberOf : Refusal → ℕ
 numberOf (Refusals.Size count) = 1
@@ -24,8 +24,6 @@ numberOf (Refusals.Allowance allowance) = 6
 numberOf (Refusals.NotFinite node) = 7
 numberOf (Refusals.Outside node) = 8
 numberOf (Refusals.Line line) = 9
-numberOf (Refusals.Place place) = 9
-numberOf Refusals.Room = 10
 
 abbrev pub detailOf : Refusal → ℕ
 detailOf (Refusals.Size count) = count
@@ -37,8 +35,6 @@ detailOf (Refusals.Allowance allowance) = allowance
 detailOf (Refusals.NotFinite node) = node
 detailOf (Refusals.Outside node) = node
 detailOf (Refusals.Line line) = line
-detailOf (Refusals.Place place) = place
-detailOf Refusals.Room = 0
 
 -- ---- ratios: "even (1 over 1); counts a, b; lengths a, b; power f, k"
 

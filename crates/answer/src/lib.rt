@@ -3,7 +3,7 @@
 ghost use mathlib.Core.Path.{_≡_};
 ghost use Rattle.answer.specs.Answers.{numberOf, detailOf};
 
-// Why a call is turned back, in the order of the refusals' numbers 1 to 10.
+// Why a call is turned back, in the order of the refusals' numbers 1 to 9.
 pub enum Refusal {
     // The node count is under 3, even or over 4,095, or lengths disagree; the count.
     Size(usize),
@@ -23,10 +23,6 @@ pub enum Refusal {
     Outside(usize),
     // The first line that is not of the state file's form; 0 for a file that is too long.
     Line(usize),
-    // The place of the first byte that is not of a Newick copy's form, or the text's length. Its number is Line's: the two come from different calls.
-    Place(usize),
-    // A lent slice is too short for the result.
-    Room,
 }
 
 impl Refusal {
@@ -43,8 +39,6 @@ impl Refusal {
             Refusal::NotFinite(_) => 7,
             Refusal::Outside(_) => 8,
             Refusal::Line(_) => 9,
-            Refusal::Place(_) => 9,
-            Refusal::Room => 10,
         }
     }
 
@@ -61,8 +55,6 @@ impl Refusal {
             Refusal::NotFinite(node) => node,
             Refusal::Outside(node) => node,
             Refusal::Line(line) => line,
-            Refusal::Place(place) => place,
-            Refusal::Room => 0,
         }
     }
 }

@@ -74,6 +74,13 @@ fn print_first(pairs: &[u16], ages: &[u64], places: usize, n: usize) {
     }
 }
 
+fn print_refused(number: u64, detail: usize) {
+    lines::text(b"refused,");
+    lines::number(number);
+    lines::text(b",");
+    lines::number(detail as u64);
+}
+
 fn answer(text: &[u8]) {
     let mut pairs = pairs_room();
     let mut ages = ages_room();
@@ -83,7 +90,8 @@ fn answer(text: &[u8]) {
                 print_first(&pairs, &ages, n + n, n);
             }
         }
-        Taken::Refused(why) => lines::refused(why),
+        Taken::Place(place) => print_refused(9, place),
+        Taken::Room => print_refused(10, 0),
     }
     lines::end();
 }

@@ -1,16 +1,13 @@
 -- The ways through the copy of a tree, by what `tree::new` said of its pairs and heights, and what the writer answered of an accepted one (`handed-copy`).
 -- Assumes nothing.
-use mathlib.Core.Path.{_≡_, refl, sym, ap, _∙_}
+use mathlib.Core.Path.{_≡_, refl, ap, _∙_}
 use mathlib.Core.Bool.{Bool, true, false, cond}
 use mathlib.Core.List.{List, _++_}
 use Prim.Native.Nat.{ℕ}
-use borrow.Author.Tests.{eq-eqb, ne-eqb}
 use lib.Dec.{ltb}
 use lib.ListN.{length, drop}
 use lib.Ieee.{Float}
 use Rattle.answer.specs.declared.Refusal.{Refusal}
-use Rattle.answer.specs.declared.Refusal.the-variants.{Room}
-use Rattle.answer.specs.Answers.{numberOf}
 use Rattle.tree.specs.declared.Rooted.{Rooted}
 use Rattle.tree.specs.declared.Rooted.the-variants as Roots
 use Rattle.tree.specs.Tree.{Tree, nodesOf}
@@ -20,7 +17,7 @@ use Rattle.accepted.specs.AcceptedLaws.{accepted-valid}
 use Rattle.accepted.specs.NewLaws.{new-refused, new-made}
 use Rattle.accepted.specs.ValidatedLaws.{valid-fine}
 use Rattle.newick.specs.declared.Copied.{Copied}
-use Rattle.newick.specs.declared.Copied.the-variants.{Bytes, Refused}
+use Rattle.newick.specs.declared.Copied.the-variants.{Bytes, Refused, Room}
 use Rattle.newick.specs.Copies.{Aged, tooOld, aged, agesOf, treeText, CopyCall, copied, placed, copyAged, copyJudged, copyCall}
 use Rattle.report.specs.Report.{refusedText, Delivery, delivery, delivered}
 use Rattle.copying.specs.Copying.{agedText, copyText, treeCopy}
@@ -33,14 +30,13 @@ module _ (r : Copied) (out : List ℕ) where
   pub told-bytes : (count : ℕ) → r ≡ Bytes count → delivery count out ≡ handed r out
   told-bytes count y = rw y
 
-  module _ (why : Refusal) (y : r ≡ Refused why) (k : ℕ) (e : k ≡ numberOf why) where
-    pub told-room : k ≡ 10 → delivery 0 out ≡ handed r out
-    told-room h = rw (y, eq-eqb (numberOf why) 10 (sym e ∙ h))
+  pub told-refused : (why : Refusal) → r ≡ Refused why → (d : Delivery) → d ≡ delivered out (refusedText why) → d ≡ handed r out
+  told-refused why y d f = rw y f
 
-    pub told-other : (k ≡ 10 → ⊥) → (d : Delivery) → d ≡ delivered out (refusedText why) → d ≡ handed r out
-    told-other h d f = rw (y, ne-eqb (numberOf why) 10 (λ (z : numberOf why ≡ 10). h (e ∙ z))) f
+  pub told-room : r ≡ Room → delivery 0 out ≡ handed r out
+  told-room y = rw y
 
-pub ruleset toldLaws = (told-bytes, told-room, told-other)
+pub ruleset toldLaws = (told-bytes, told-refused, told-room)
 
 handed-placed : (out s : List ℕ) → handed (placed out s .answer) (placed out s .out) ≡ delivered out s
 unfolding placed delivered
@@ -50,7 +46,7 @@ handed-placed out s = go (ltb (length out) (length s))
     text = s ++ drop (length s) out
 
     call : Bool → CopyCall
-    call b = cond b (copied (Refused Room) out) (copied (Bytes (length s)) text)
+    call b = cond b (copied Room out) (copied (Bytes (length s)) text)
 
     go : (b : Bool) → handed (call b .answer) (call b .out) ≡ cond b (delivery 0 out) (delivery (length s) text)
     go true = refl

@@ -24,10 +24,10 @@ fn conclude(copied: Copied, out: &mut [u8]) -> usize
             return count;
         }
         Copied::Refused(why) => {
-            if why.number() == 10 {
-                return 0;
-            }
             return report::put_refusal(out, why);
+        }
+        Copied::Room => {
+            return 0;
         }
     }
 }

@@ -6,7 +6,7 @@ use Prim.Native.Nat.{ℕ, zero, suc, _+_, _-_}
 use lib.Dec.{ltb, leb}
 use lib.ListN.{length, getD, drop}
 use lib.Ieee.{Float}
-use Rattle.answer.specs.declared.Refusal.the-variants.{Parameter, Place, Room}
+use Rattle.answer.specs.declared.Refusal.the-variants.{Parameter}
 use Rattle.real.specs.declared.Printed.{Printed}
 use Rattle.real.specs.declared.Printed.the-variants as Printings
 use Rattle.real.specs.Printed.{printedOf}
@@ -72,7 +72,7 @@ copied answer out = record { answer = answer; out = out }
 
 -- the text at the start of the slice, the rest being as it was; "refuse with 10 when a lent slice is too short for the result"
 unfoldable pub placed : List ℕ → List ℕ → CopyCall
-placed out s = cond (ltb (length out) (length s)) (copied (Copieds.Refused Room) out) (copied (Copieds.Bytes (length s)) (s ++ drop (length s) out))
+placed out s = cond (ltb (length out) (length s)) (copied Copieds.Room out) (copied (Copieds.Bytes (length s)) (s ++ drop (length s) out))
 
 -- "An age of 2^43 or more is a 5"
 abbrev pub copyAged : Tree → List ℕ → Aged → CopyCall
@@ -100,12 +100,12 @@ taken answer pairs ages = record { answer = answer; pairs = pairs; ages = ages }
 
 -- "with 9 when the text to be read is not of this form"; 10 comes "after 9 in the reader"
 abbrev pub readSaid : List ℕ → List ℕ → Reading → ReadCall
-readSaid pairs ages (faulty place) = taken (Takens.Refused (Place place)) pairs ages
+readSaid pairs ages (faulty place) = taken (Takens.Place place) pairs ages
 readSaid pairs ages (says t) =
     let n = nodesIn t in
     cond (leb (n + n) (length pairs) && leb n (length ages))
     (taken (Takens.Nodes n) (pairsRead t ++ drop (n + n) pairs) (agesRead t ++ drop n ages))
-    (taken (Takens.Refused Room) pairs ages)
+    (taken Takens.Room pairs ages)
 
 unfoldable pub readCall : List ℕ → List ℕ → List ℕ → ReadCall
 readCall s pairs ages = readSaid pairs ages (reading s)

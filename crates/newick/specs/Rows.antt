@@ -6,7 +6,7 @@ use Prim.Native.Nat.{ℕ}
 use Prim.Native.String.{String}
 use lib.ListN.{replicate}
 use lib.Ieee.{Float, binary64, ofBits, lt, le, eq}
-use Rattle.answer.specs.declared.Refusal.the-variants.{Size, Parameter, Place, Room}
+use Rattle.answer.specs.declared.Refusal.the-variants.{Size, Parameter}
 use Rattle.real.specs.Real as Real
 use Rattle.real.specs.Printed.{printedOf, thousandthsOf}
 use Rattle.tree.specs.Tree.{Tree, noNode, parent, height, subtree}
@@ -57,7 +57,7 @@ pub record CopyRows : Type 0 where
   -- "F is `((0:1.000,1:1.000):1.000,2:2.000);`", and what is behind it in the slice stays
   pub whole : copyCall F (replicate 36 7) ≡ copied (Copieds.Bytes 34) (bytes "((0:1.000,1:1.000):1.000,2:2.000);" ++ (7 ∷ 7 ∷ []))
   pub exact : copyCall F (replicate 34 7) ≡ copied (Copieds.Bytes 34) (bytes "((0:1.000,1:1.000):1.000,2:2.000);")
-  pub short : copyCall F (replicate 33 7) ≡ copied (Copieds.Refused Room) (replicate 33 7)
+  pub short : copyCall F (replicate 33 7) ≡ copied Copieds.Room (replicate 33 7)
   -- printed ages 2.000 and 0.999, whose difference is not that of the heights as it would print
   pub dated : copyCall (pair almost-one Real.zero just-two) (replicate 18 7) ≡ copied (Copieds.Bytes 18) (bytes "(0:1.001,1:2.000);")
   -- "An age of 2^43 or more is a 5", before a 10; the number before it prints
@@ -84,9 +84,9 @@ pub record ReadRows : Type 0 where
   pub own : readCall (bytes "((0:1.000,1:1.000):1.000,2:2.000);") (replicate 10 7) (replicate 5 7)
       ≡ taken (Takens.Nodes 5) (F .pairs) (0 ∷ 0 ∷ 0 ∷ 1000 ∷ 2000 ∷ [])
   -- 10 where either slice is one short, "after 9"
-  pub short-pairs : readCall (bytes "(0:1.000,1:1.999);") (replicate 5 7) (replicate 3 7) ≡ taken (Takens.Refused Room) (replicate 5 7) (replicate 3 7)
-  pub short-ages : readCall (bytes "(0:1.000,1:1.999);") (replicate 6 7) (replicate 2 7) ≡ taken (Takens.Refused Room) (replicate 6 7) (replicate 2 7)
-  pub faulty-first : readCall (bytes "(0:1.000,0:1.999);") [] [] ≡ taken (Takens.Refused (Place 18)) [] []
+  pub short-pairs : readCall (bytes "(0:1.000,1:1.999);") (replicate 5 7) (replicate 3 7) ≡ taken Takens.Room (replicate 5 7) (replicate 3 7)
+  pub short-ages : readCall (bytes "(0:1.000,1:1.999);") (replicate 6 7) (replicate 2 7) ≡ taken Takens.Room (replicate 6 7) (replicate 2 7)
+  pub faulty-first : readCall (bytes "(0:1.000,0:1.999);") [] [] ≡ taken (Takens.Place 18) [] []
   -- "root age below 2^53 thousandths"
   pub oldest : reading (bytes "(0:9007199254740.991,1:0.000);") ≡ says (join (tip 0) 9007199254740991 (tip 1) 0)
   pub too-old : reading (bytes "(0:9007199254740.992,1:0.000);") ≡ faulty 30

@@ -9,8 +9,7 @@ use native.Mathlib.Omega.{arith}
 use lib.ListN.{length, getD, set, take, drop, length-set}
 use lib.Seq.{getD-set-same, getD-set-other, ext-getD, length-take-le}
 use borrow.Author.Tests.{lt-ltb, le-ltb}
-use Rattle.answer.specs.declared.Refusal.the-variants.{Room}
-use Rattle.newick.specs.declared.Taken.the-variants.{Nodes, Refused}
+use Rattle.newick.specs.declared.Taken.the-variants.{Nodes, Room}
 use Rattle.newick.specs.Copies.{taken}
 use Rattle.newick_read.specs.Taking.{rootAges, allSeen, deliver}
 
@@ -81,12 +80,12 @@ module _ (tips : ℕ) (fo us : List ℕ) (h : ℕ) where
   ages-sent l m k e = ap (λ (x : List ℕ). x ++ drop (length us) l) (e ∙ ap (rootAges tips fo us h) (length-take-le (length us) l k))
 
   module _ (pairs ages : List ℕ) where
-    pub pairs-short : length pairs < length fo → taken (Refused Room) pairs ages ≡ deliver tips fo us h pairs ages
+    pub pairs-short : length pairs < length fo → taken Room pairs ages ≡ deliver tips fo us h pairs ages
     unfolding deliver
     pairs-short e = rw (lt-ltb (length pairs) (length fo) e)
 
     module _ (e : length fo ≤ length pairs) where
-      pub ages-short : length ages < length us → taken (Refused Room) pairs ages ≡ deliver tips fo us h pairs ages
+      pub ages-short : length ages < length us → taken Room pairs ages ≡ deliver tips fo us h pairs ages
       unfolding deliver
       ages-short f = rw (le-ltb (length pairs) (length fo) e, lt-ltb (length ages) (length us) f)
 

@@ -5,9 +5,8 @@ use mathlib.Core.List.{List, _++_}
 use Prim.Native.Nat.{ℕ, zero, suc, _+_, _-_, min, max}
 use lib.Dec.{ltb}
 use lib.ListN.{length, getD, set, drop, replicate}
-use Rattle.answer.specs.declared.Refusal.the-variants.{Place, Room}
 use Rattle.tree.specs.Tree.{firstIn, secondIn}
-use Rattle.newick.specs.declared.Taken.the-variants.{Nodes, Refused}
+use Rattle.newick.specs.declared.Taken.the-variants.{Nodes, Place, Room}
 use Rattle.newick.specs.Copies.{ReadCall, taken}
 use Rattle.newick_file.specs.Filing.{most, file, blank}
 
@@ -45,13 +44,13 @@ allSeen se zero = true
 allSeen se (suc m) = allSeen se m && getD se m false
 
 abbrev pub placeCall : ℕ → List ℕ → List ℕ → ReadCall
-placeCall p pairs ages = taken (Refused (Place p)) pairs ages
+placeCall p pairs ages = taken (Place p) pairs ages
 
 -- into the lent slices, where both have room
 unfoldable pub deliver : ℕ → List ℕ → List ℕ → ℕ → List ℕ → List ℕ → ReadCall
 deliver tips fo us h pairs ages =
-    cond (ltb (length pairs) (length fo)) (taken (Refused Room) pairs ages)
-    (cond (ltb (length ages) (length us)) (taken (Refused Room) pairs ages)
+    cond (ltb (length pairs) (length fo)) (taken Room pairs ages)
+    (cond (ltb (length ages) (length us)) (taken Room pairs ages)
     (taken (Nodes (length us)) (fo ++ drop (length fo) pairs) (rootAges tips fo us h (length us) ++ drop (length us) ages)))
 
 -- with the root's age h, of a text of so many bytes

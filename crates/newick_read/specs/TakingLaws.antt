@@ -10,9 +10,8 @@ use native.Mathlib.Omega.{arith}
 use lib.Dec.{ltb, leb}
 use lib.ListN.{length, drop, replicate, length-replicate}
 use borrow.Author.Tests.{lt-ltb, le-ltb, le-leb, lt-leb}
-use Rattle.answer.specs.declared.Refusal.the-variants.{Room}
 use Rattle.tree.specs.Tree.{noNode}
-use Rattle.newick.specs.declared.Taken.the-variants.{Nodes, Refused}
+use Rattle.newick.specs.declared.Taken.the-variants.{Nodes, Room}
 use Rattle.newick.specs.Newick.{Newick, tip, join, start, done, reached, run}
 use Rattle.newick.specs.Numbering.{joins, tipsIn, nodesIn, nodeOf, pairsIn, pairsRead, reach, agesIn, agesRead}
 use Rattle.newick.specs.Reading.{acceptable, faulty, says, ended}
@@ -137,7 +136,7 @@ module _ (t : Newick) (F : tipsIn t ≤ 2048) (L : nodeOf (tipsIn t) (capped t) 
   handed h e z H = rw (ages-are h e z H, long-P, long-U, pairs-are z) (go (decLt (length pairs) (N + N)) (decLt (length ages) N))
     where
       none : ReadCall
-      none = taken (Refused Room) pairs ages
+      none = taken Room pairs ages
 
       all : ReadCall
       all = taken (Nodes N) (pairsRead t ++ drop (N + N) pairs) (agesRead t ++ drop N ages)

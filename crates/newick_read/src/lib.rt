@@ -1,7 +1,6 @@
 // The reader of Newick texts, by change request S-1: the first pass judges the spelling, the second fills pairs, lengths and tips into local arrays; then the
 // tips, the root's age and the room are judged, and the result is written at the start of the lent slices, which stay as they are when the text is refused.
 // Assumes nothing.
-use answer::Refusal;
 use newick::Taken;
 use newick_spell::Spelling;
 ghost use mathlib.Core.List.{_++_};
@@ -170,10 +169,10 @@ fn send(
     ensures { λ r. ⌜ taken r (now (pairs .exit)) (now (ages .exit)) ≡ deliver tips (now (found .entry)) (now (ups .entry)) h (now (pairs .entry)) (now (ages .entry)) ⌝ }
 {
     if pairs.len() < found.len() {
-        return Taken::Refused(Refusal::Room);
+        return Taken::Room;
     }
     if ages.len() < ups.len() {
-        return Taken::Refused(Refusal::Room);
+        return Taken::Room;
     }
     send_pairs(found, pairs);
     send_ages(found, ups, tips, h, ages);
@@ -211,7 +210,7 @@ fn judge_age(
     if h < MOST {
         return send(found, ups, tips, h, pairs, ages);
     }
-    Taken::Refused(Refusal::Place(long))
+    Taken::Place(long)
 }
 
 fn judge_all(
@@ -229,7 +228,7 @@ fn judge_all(
         let h = root_reach(found, ups, tips);
         return judge_age(long, found, ups, tips, h, pairs, ages);
     }
-    Taken::Refused(Refusal::Place(long))
+    Taken::Place(long)
 }
 
 // The second pass and what follows it, in slices for what it fills.
@@ -343,7 +342,7 @@ fn read_whole(text: &[u8], pairs: &mut [u16], ages: &mut [u64]) -> Taken
     if joins < 2048 {
         return read_few(text, joins + 1, pairs, ages);
     }
-    Taken::Refused(Refusal::Place(text.len()))
+    Taken::Place(text.len())
 }
 
 // The pairs and the ages that a Newick text says, at the start of the lent slices, and how many nodes there are.
@@ -352,10 +351,10 @@ pub fn read(text: &[u8], pairs: &mut [u16], ages: &mut [u64]) -> Taken
 {
     match newick_spell::spell(text) {
         Spelling::Forbidden(at) => {
-            return Taken::Refused(Refusal::Place(at));
+            return Taken::Place(at);
         }
         Spelling::Unfinished => {
-            return Taken::Refused(Refusal::Place(text.len()));
+            return Taken::Place(text.len());
         }
         Spelling::Spelled => {
             return read_whole(text, pairs, ages);

@@ -11,7 +11,6 @@ use lib.ListN.{length, getD, length-append, List·getD-eq-default}
 use mir.Val.{Fits}
 use mir.Syntax.{w64}
 use borrow.Author.Tests.{lt-ltb, le-ltb}
-use Rattle.answer.specs.declared.Refusal.the-variants.{Room}
 use Rattle.tree.specs.Tree.{nodesOf, inner, firstIn, secondIn}
 use Rattle.text.specs.Text.{decimalText}
 use Rattle.print.specs.Writing.{Written, written, writeByte, write}
@@ -19,7 +18,7 @@ use Rattle.print.specs.WritingLaws.{write-append, write-whole}
 use Rattle.print.specs.NumberLaws.{digits-few}
 use Rattle.newick.specs.DecimalLaws.{number-text}
 use Rattle.newick.specs.Newick.{numberText, lengthText, text, wholeText}
-use Rattle.newick.specs.declared.Copied.the-variants.{Bytes, Refused}
+use Rattle.newick.specs.declared.Copied.the-variants.{Bytes, Room}
 use Rattle.newick.specs.Copies.{datedAt, newickOf, treeText, copied, placed}
 use Rattle.newick_write.specs.declared.Children.{Children}
 use Rattle.newick_write.specs.declared.Space.{Space}
@@ -250,7 +249,7 @@ room-told room long x e = elim (decLt room long) [
 ]
 
 module _ (out s : List ℕ) (x : Space) (e : x ≡ spaceAfter (Left (length out)) (length s)) where
-  pub copy-none : x ≡ Short → copied (Refused Room) out ≡ placed out s
+  pub copy-none : x ≡ Short → copied Room out ≡ placed out s
   unfolding placed
   copy-none h = rw (lt-ltb (length out) (length s) (room-told (length out) (length s) x e .1 h))
 

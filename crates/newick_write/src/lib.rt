@@ -208,7 +208,7 @@ pub fn write_ages(pairs: &[u16], ages: &[u64], root: usize, out: &mut [u8]) -> C
             return Copied::Bytes(put_whole(pairs, ages, root, out));
         }
         Space::Short => {
-            return Copied::Refused(Refusal::Room);
+            return Copied::Room;
         }
     }
 }

@@ -1,6 +1,5 @@
 // The recopy program: reads a Newick text on standard input and prints what it says, a line for its number of tips, one for each pair and one for each age in
 // whole thousandths above the youngest tip; then the text once more, written from these. Or the refusal, as the listing prints it. Assumes nothing beyond io.
-use answer::Refusal;
 use libc::STDIN_FILENO;
 use newick::Copied;
 use newick::Taken;
@@ -23,9 +22,11 @@ fn copy_room() -> [u8; 86916] {
     [0u8; 86916]
 }
 
-fn refuse(why: Refusal) {
-    lines::text(b"answer=");
-    lines::refused(why);
+fn refuse(number: u64, detail: u64) {
+    lines::text(b"answer=refused,");
+    lines::number(number);
+    lines::text(b",");
+    lines::number(detail);
     lines::end();
 }
 
@@ -74,7 +75,8 @@ fn print_copy(pairs: &[u16], ages: &[u64], root: usize) {
     let mut copy = copy_room();
     match newick_write::write_ages(pairs, ages, root, &mut copy) {
         Copied::Bytes(count) => print_text(&copy, count),
-        Copied::Refused(why) => refuse(why),
+        Copied::Refused(why) => refuse(why.number() as u64, why.detail() as u64),
+        Copied::Room => refuse(10, 0),
     }
 }
 
@@ -107,7 +109,8 @@ fn recopy(text: &[u8]) {
                 print_first(&pairs, &ages, n + n, n);
             }
         }
-        Taken::Refused(why) => refuse(why),
+        Taken::Place(place) => refuse(9, place as u64),
+        Taken::Room => refuse(10, 0),
     }
 }
 

@@ -12,7 +12,7 @@ use Rattle.newick.specs.declared.Copied.the-variants as Copieds
 use Rattle.newick.specs.declared.Taken.{Taken}
 use Rattle.newick.specs.declared.Taken.the-variants as Takens
 use Rattle.newick.specs.Copies.{copied, copyCall, taken, readCall}
-use Rattle.rove_newick.specs.Exports.{copiedLeft, takenLeft, copyLeft, readLeft, writeExported, readExported}
+use Rattle.rove_newick.specs.Exports.{turnedBack, copiedLeft, takenLeft, copyLeft, readLeft, writeExported, readExported}
 
 module _ (words after : List ℕ) (r : ℕ) where
   module _ (a : Copied) where
@@ -24,16 +24,24 @@ module _ (words after : List ℕ) (r : ℕ) where
     unfolding copiedLeft
     copied-refused why e h = rw e h
 
+    pub copied-room : a ≡ Copieds.Room → written r after ≡ replied (turnedBack 10 0) words → written r after ≡ copiedLeft a words
+    unfolding copiedLeft
+    copied-room e h = rw e h
+
   module _ (a : Taken) where
     pub taken-nodes : (count : ℕ) → a ≡ Takens.Nodes count → written r after ≡ replied (givenReply 0 count 0) words → written r after ≡ takenLeft a words
     unfolding takenLeft
     taken-nodes count e h = rw e h
 
-    pub taken-refused : (why : Refusal) → a ≡ Takens.Refused why → written r after ≡ replied (refusedReply why) words → written r after ≡ takenLeft a words
+    pub taken-place : (place : ℕ) → a ≡ Takens.Place place → written r after ≡ replied (turnedBack 9 place) words → written r after ≡ takenLeft a words
     unfolding takenLeft
-    taken-refused why e h = rw e h
+    taken-place place e h = rw e h
 
-pub ruleset answerLaws = (copied-bytes, copied-refused, taken-nodes, taken-refused)
+    pub taken-room : a ≡ Takens.Room → written r after ≡ replied (turnedBack 10 0) words → written r after ≡ takenLeft a words
+    unfolding takenLeft
+    taken-room e h = rw e h
+
+pub ruleset answerLaws = (copied-bytes, copied-refused, copied-room, taken-nodes, taken-place, taken-room)
 
 module _ (words : List ℕ) (b : Bool) (eb : b ≡ isRecord words) where
   module _ (pairs parents : List ℕ) (heights : List Float) (out : List ℕ) where

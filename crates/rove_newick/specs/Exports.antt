@@ -5,12 +5,21 @@ use mathlib.Core.List.{List}
 use Prim.Native.Nat.{ℕ}
 use lib.Ieee.{Float}
 use Rattle.tree.specs.Given.{treeOf}
-use Rattle.record.specs.Record.{rootIn, Written, written, isRecord, noRecord, replied, givenReply, refusedReply}
+use Rattle.record.specs.declared.Reply.{Reply}
+use Rattle.record.specs.Record.{rootIn, Written, written, isRecord, noRecord, replied, reply, givenReply, refusedReply}
 use Rattle.newick.specs.declared.Copied.{Copied}
 use Rattle.newick.specs.declared.Copied.the-variants as Copieds
 use Rattle.newick.specs.declared.Taken.{Taken}
 use Rattle.newick.specs.declared.Taken.the-variants as Takens
 use Rattle.newick.specs.Copies.{copyCall, readCall}
+
+-- a refusal by its number and detail, as `refusedReply` has document 01's
+abbrev pub turnedBack : ℕ → ℕ → Reply
+turnedBack number detail = reply 2 0 number detail 0
+
+-- "Both refuse with 10 [...], the detail being 0"
+abbrev pub roomReply : Reply
+roomReply = turnedBack 10 0
 
 -- ---- the writer
 
@@ -18,6 +27,7 @@ use Rattle.newick.specs.Copies.{copyCall, readCall}
 unfoldable pub copiedLeft : Copied → List ℕ → Written
 copiedLeft (Copieds.Bytes count) words = replied (givenReply 0 count 0) words
 copiedLeft (Copieds.Refused why) words = replied (refusedReply why) words
+copiedLeft Copieds.Room words = replied roomReply words
 
 pub record CopyLeft : Type 0 where
   pub written : Written
@@ -35,10 +45,11 @@ writeExported pairs parents heights out words =
 
 -- ---- the reader
 
--- the nodes as the first value
+-- the nodes as the first value; "with 9 [...], the detail then being the place"
 unfoldable pub takenLeft : Taken → List ℕ → Written
 takenLeft (Takens.Nodes count) words = replied (givenReply 0 count 0) words
-takenLeft (Takens.Refused why) words = replied (refusedReply why) words
+takenLeft (Takens.Place place) words = replied (turnedBack 9 place) words
+takenLeft Takens.Room words = replied roomReply words
 
 pub record ReadLeft : Type 0 where
   pub written : Written

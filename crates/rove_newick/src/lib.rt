@@ -4,11 +4,29 @@
 ghost use mathlib.Core.Path.{_≡_};
 ghost use Prim.Native.Nat.{_≤_};
 ghost use lib.ListN.{length};
-ghost use Rattle.record.specs.Record.{written};
-ghost use Rattle.rove_newick.specs.Exports.{copiedLeft, takenLeft, copyLeft, readLeft, writeExported, readExported};
+ghost use Rattle.record.specs.Record.{written, replied};
+ghost use Rattle.rove_newick.specs.Exports.{turnedBack, copiedLeft, takenLeft, copyLeft, readLeft, writeExported, readExported};
 use newick::Copied;
 use newick::Taken;
 use record::NO_RECORD;
+use record::Reply;
+
+// A refusal by its number and detail.
+fn put_refused(words: &mut [u64], number: u64, detail: u64) -> u64
+    requires { ⌜ 32 ≤ length (now words) ⌝ }
+    ensures { λ r. ⌜ written r (now (words .exit)) ≡ replied (turnedBack number detail) (now (words .entry)) ⌝ }
+{
+    record::put_reply(
+        words,
+        Reply {
+            code: 2,
+            draws: 0,
+            kind: number,
+            first: detail,
+            second: 0,
+        },
+    )
+}
 
 fn put_copied(words: &mut [u64], copied: Copied) -> u64
     requires { ⌜ 32 ≤ length (now words) ⌝ }
@@ -21,6 +39,9 @@ fn put_copied(words: &mut [u64], copied: Copied) -> u64
         Copied::Refused(why) => {
             return record::put_refusal(words, why);
         }
+        Copied::Room => {
+            return put_refused(words, 10, 0);
+        }
     }
 }
 
@@ -32,8 +53,11 @@ fn put_taken(words: &mut [u64], taken: Taken) -> u64
         Taken::Nodes(count) => {
             return record::put_given(words, 0, count as u64, 0);
         }
-        Taken::Refused(why) => {
-            return record::put_refusal(words, why);
+        Taken::Place(place) => {
+            return put_refused(words, 9, place as u64);
+        }
+        Taken::Room => {
+            return put_refused(words, 10, 0);
         }
     }
 }

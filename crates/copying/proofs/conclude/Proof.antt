@@ -13,17 +13,17 @@ returns c = search (toldLaws, needs)
 enum-known-copied-2 : tie.Need-enum-known-copied-2
 enum-known-copied-2 c = search needs
 
-number-requires : tie.Need-number-requires
-number-requires c κs = search needs
-
-returns-2 : tie.Need-returns-2
-returns-2 c = search (toldLaws, needs)
-
 put-refusal-requires : tie.Need-put-refusal-requires
 put-refusal-requires c κs = search needs
 
 same-length : tie.Need-same-length
 same-length c = search needs
+
+returns-2 : tie.Need-returns-2
+returns-2 c = search (toldLaws, needs)
+
+enum-told : tie.Need-enum-told
+enum-told c = search needs
 
 returns-3 : tie.Need-returns-3
 returns-3 c = search (toldLaws, needs)
@@ -35,8 +35,8 @@ conclude-spec =
     enum-known-copied
     returns
     enum-known-copied-2
-    number-requires
-    returns-2
     put-refusal-requires
     same-length
+    returns-2
+    enum-told
     returns-3)

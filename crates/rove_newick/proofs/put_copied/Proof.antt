@@ -28,6 +28,18 @@ same-length-2 c = search needs
 returns-2 : tie.Need-returns-2
 returns-2 c = search (answerLaws, needs)
 
+enum-told : tie.Need-enum-told
+enum-told c = search needs
+
+put-refused-requires : tie.Need-put-refused-requires
+put-refused-requires c κs = search needs
+
+same-length-3 : tie.Need-same-length-3
+same-length-3 c = search needs
+
+returns-3 : tie.Need-returns-3
+returns-3 c = search (answerLaws, needs)
+
 pub put-copied-spec : {M : Type 1} → statement M
 put-copied-spec =
     tie.close
@@ -39,4 +51,8 @@ put-copied-spec =
     enum-known-copied-2
     put-refusal-requires
     same-length-2
-    returns-2)
+    returns-2
+    enum-told
+    put-refused-requires
+    same-length-3
+    returns-3)
