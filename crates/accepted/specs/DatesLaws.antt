@@ -1,8 +1,7 @@
--- The test of the heights. In order: the lowest number at which a test holds is refused where there is one (`lowest-fine`, `fine-lowest`), and
--- so no height is refused exactly where the tree is dated (`fine-dated`, `dated-fine`). Assumes nothing.
-use mathlib.Core.Path.{_≡_, refl}
-use mathlib.Core.Bool.{Bool, true, false, not, _&&_, _||_, cond}
-use Prim.Native.Nat.{ℕ, zero, suc, _<_}
+-- The test of the heights: none is refused exactly where the tree is dated (`fine-dated`, `dated-fine`). Assumes nothing.
+use mathlib.Core.Path.{_≡_}
+use mathlib.Core.Bool.{Bool, not, _&&_, _||_}
+use Prim.Native.Nat.{ℕ, _<_}
 use native.Mathlib.Omega.{arith}
 use native.Mathlib.Decide.{ℕ-discrete}
 use lib.Dec.{T, eqb}
@@ -12,38 +11,12 @@ use lib.Ieee.Bits.{is-true, is-false}
 use lib.Ieee.Scale.{finite}
 use mir.Facts.{or-no, T-not-not}
 use borrow.Author.Tests.{eq-eqb, ne-eqb}
-use Rattle.answer.specs.declared.Refusal.{Refusal}
 use Rattle.real.specs.Real as Real
-use Rattle.tree.specs.declared.Verdict.{Verdict}
-use Rattle.tree.specs.declared.Verdict.the-variants.{Fine, Refused}
+use Rattle.tree.specs.declared.Verdict.the-variants.{Fine}
 use Rattle.tree.specs.Tree.{Tree, parent, height}
-use Rattle.tree.specs.New.{misdated, orRefused, lowest, datesOf}
+use Rattle.tree.specs.New.{misdated, datesOf}
 use Rattle.tree.specs.Valid.{Dated}
-
--- ---- the lowest that is refused
-
-module _ (test : ℕ → Bool) (why : ℕ → Refusal) where
-  -- where none of the first m numbers is refused, the test fails at each
-  pub lowest-fine : (m : ℕ) → lowest test why m ≡ Fine → (k : ℕ) → k < m → T (not (test k))
-  unfolding lowest
-  lowest-fine zero e k K = absurd (omega arith)
-  lowest-fine (suc m) e k K = next (lowest test why m) (λ q. lowest-fine m q k) e
-    where
-      last : (b : Bool) → cond b (Refused (why m)) Fine ≡ Fine → T (not b)
-      last true e = let z : _≡_ {A = ℕ} 0 1 = cc in absurd (omega arith)
-      last false e = tt
-
-      next : (s : Verdict) → (s ≡ Fine → k < m → T (not (test k))) → orRefused s (test m) (why m) ≡ Fine → T (not (test k))
-      next (Refused w) before e = let z : _≡_ {A = ℕ} 0 1 = cc in absurd (omega arith)
-      next Fine before e = elim (ℕ-discrete k m) [ yes q ↦ rw q (last (test m) e) | no d ↦ before refl (omega arith) ]
-
-  -- where the test fails at each of the first m numbers, none is refused
-  pub fine-lowest : (m : ℕ) → ((k : ℕ) → k < m → T (not (test k))) → lowest test why m ≡ Fine
-  unfolding lowest
-  fine-lowest zero fails = refl
-  fine-lowest (suc m) fails = rw (fine-lowest m (λ k K. fails k (omega arith)), is-false (test m) (fails m (omega arith)))
-
--- ---- the heights
+use Rattle.tree.specs.LowestLaws.{lowest-fine, fine-lowest}
 
 -- c's height alone is refused
 abbrev alone : Tree → ℕ → Bool
@@ -54,6 +27,9 @@ abbrev beside : Tree → ℕ → Bool
 beside t c = not (eqb c (t .root)) && not (le (height t c) (height t (parent t c)))
 
 module _ (n : ℕ) (t : Tree) (sized : length (t .heights) ≡ n) where
+  sound : datesOf t ≡ Fine → (c : ℕ) → c < n → T (not (misdated t c))
+  sound e c C = rw (lowest-fine (misdated t) _ (length (t .heights)) e c (omega arith)) tt
+
   -- a tree none of whose heights is refused is dated
   pub fine-dated : datesOf t ≡ Fine → Dated n t
   unfolding misdated
@@ -64,14 +40,14 @@ module _ (n : ℕ) (t : Tree) (sized : length (t .heights) ≡ n) where
   }
     where
       passes : (c : ℕ) → c < n → T (not (alone t c)) × T (not (beside t c))
-      passes c C = or-no (alone t c) (beside t c) (lowest-fine (misdated t) _ (length (t .heights)) e c (omega arith))
+      passes c C = or-no (alone t c) (beside t c) (sound e c C)
 
       not-alone : (c : ℕ) → c < n → T (not (lt (height t c) Real.zero)) × T (not (not (finite (height t c))))
       not-alone c C = or-no (lt (height t c) Real.zero) (not (finite (height t c))) (passes c C .0)
 
   -- no height of a dated tree is refused
   pub dated-fine : Dated n t → datesOf t ≡ Fine
-  dated-fine d = fine-lowest (misdated t) _ (length (t .heights)) (λ c C. passes c (omega arith))
+  dated-fine d = fine-lowest (misdated t) _ (length (t .heights)) (λ c C. is-false (misdated t c) (passes c (omega arith)))
     where
       not-beside : (c : ℕ) → c < n → T (not (beside t c))
       not-beside c C = elim (ℕ-discrete c (t .root)) [

@@ -1,16 +1,19 @@
--- `validate` refuses with 1 to 4 and nothing else (`validated-few`); a bound for a refusal's number may be weakened (`few-more`). Assumes nothing.
+-- `validate` refuses with 1 to 4 and nothing else (`validated-few`), the lowest that is refused by its refusal's number (`lowest-few`); a bound for such a
+-- number may be weakened (`few-more`). Assumes nothing.
 use mathlib.Core.Bool.{Bool, true, false, _&&_, _||_, cond}
 use mathlib.Core.List.{List, [], _∷_}
 use Prim.Native.Nat.{ℕ, zero, suc, _≤_}
 use native.Mathlib.Omega.{arith}
 use lib.Dec.{leb, eqb}
 use lib.ListN.{length, getD, set}
+use Rattle.answer.specs.declared.Refusal.{Refusal}
 use Rattle.answer.specs.declared.Refusal.the-variants.{Size, Shape, Disconnected, Height}
 use Rattle.answer.specs.Answers.{numberOf}
 use Rattle.tree.specs.declared.Verdict.{Verdict}
 use Rattle.tree.specs.declared.Verdict.the-variants as Verdicts
 use Rattle.tree.specs.Tree.{Tree, noNode, nodesOf, inner, firstIn, secondIn, subtree}
-use Rattle.tree.specs.New.{sizeFits, Scan, stopped, filled, adopt, thenAdopt, visit, scan, roots, onlyRoot, unshaped, shaping, joined, scanned, misdated, orRefused, lowest, agree, judged, validated}
+use Rattle.tree.specs.New.{sizeFits, Scan, stopped, filled, adopt, thenAdopt, visit, scan, roots, onlyRoot, unshaped, shaping, joined, scanned, misdated, lowest, agree, judged, validated}
+use Rattle.tree.specs.LowestLaws.{Lowest, none, first, lowest-says}
 
 -- it is fine, or a refusal with a number of at most m
 abbrev pub AtMost : ℕ → Verdict → Type 0
@@ -52,14 +55,13 @@ unfolding scan
 scan-few n pairs zero = tt
 scan-few n pairs (suc m) = visit-few n pairs m (scan n pairs m) (scan-few n pairs m)
 
-lowest-few : (test : ℕ → Bool) (m : ℕ) → (AtMost 4) (lowest test Height m)
-unfolding lowest
-lowest-few test zero = tt
-lowest-few test (suc m) = next (lowest test Height m) (lowest-few test m)
+-- the lowest that is refused has its refusal's number
+pub lowest-few : (n : ℕ) (test : ℕ → Bool) (why : ℕ → Refusal) → ((k : ℕ) → numberOf (why k) ≤ n) → (m : ℕ) → AtMost n (lowest test why m)
+lowest-few n test why few m = said (lowest test why m) (lowest-says test why m)
   where
-    next : (v : Verdict) → (AtMost 4) v → (AtMost 4) (orRefused v (test m) (Height m))
-    next Verdicts.Fine h = either (AtMost 4) (test m) {x = Verdicts.Refused (Height m)} {y = Verdicts.Fine} (omega arith) tt
-    next (Verdicts.Refused why) h = h
+    said : (v : Verdict) → Lowest test why m v → AtMost n v
+    said _ (none fails) = tt
+    said _ (first k K e below) = few k
 
 judged-few : (t : Tree) (n : ℕ) (pairs : List ℕ) (s : Scan) → ScanFew s → (AtMost 4) (judged t (scanned n pairs s))
 unfolding judged scanned joined
@@ -67,7 +69,7 @@ judged-few t n pairs (stopped why) h = h
 judged-few t n pairs (filled ps) h = root (roots ps (length ps))
   where
     shaped : (r : ℕ) (b : Bool) → (AtMost 4) (judged t (cond b (shaping ps r) (unshaped Disconnected)))
-    shaped r true = either (AtMost 4) (eqb r (t .root) && agree ps (t .parents) (length ps)) {y = Verdicts.Refused Disconnected} (lowest-few (misdated t) (length (t .heights))) (omega arith)
+    shaped r true = either (AtMost 4) (eqb r (t .root) && agree ps (t .parents) (length ps)) {y = Verdicts.Refused Disconnected} (lowest-few 4 (misdated t) Height (λ k. omega arith) (length (t .heights))) (omega arith)
     shaped r false = omega arith
 
     root : (rs : List ℕ) → (AtMost 4) (judged t (joined n pairs ps (onlyRoot rs)))

@@ -1,22 +1,15 @@
--- The ways through the reading of a tip's ages and the tests of them (`ageLaws`, `misagedLaws`, `faultLaws`), and through the loop over the tips of a
--- table (`judgeLaws`). Assumes nothing.
-use mathlib.Core.Path.{_≡_, refl, sym, _∙_}
+-- The ways through the reading of a tip's ages and the tests of them (`ageLaws`, `misagedLaws`, `faultLaws`). Assumes nothing.
+use mathlib.Core.Path.{_≡_}
 use mathlib.Core.Bool.{Bool, true, false}
 use mathlib.Core.List.{List}
-use Prim.Native.Nat.{ℕ, _+_, _≤_, _<_}
-use native.Mathlib.Omega.{arith}
-use native.Mathlib.Numerals.{add-one}
+use Prim.Native.Nat.{ℕ}
 use lib.ListN.{getD}
 use lib.Ieee.{Float, nan, lt, le, eq}
 use lib.Ieee.Scale.{finite}
-use Rattle.answer.specs.declared.Refusal.the-variants.{Parameter}
 use Rattle.real.specs.Real.{zero}
-use Rattle.tree.specs.declared.Verdict.the-variants as Verdicts
-use Rattle.tree.specs.Bounded.{some}
-use Rattle.tree.specs.BoundedLaws.{some-none}
 use Rattle.process.specs.declared.FossilizedBirthDeath.{FossilizedBirthDeath}
 use Rattle.ages.specs.declared.TipAge.{TipAge}
-use Rattle.ages.specs.Ages.{ageOf, misaged, unsampled, atFault, Judged, in-order, some-tip}
+use Rattle.ages.specs.Ages.{ageOf, misaged, unsampled, atFault}
 
 -- ---- the ages of a tip
 
@@ -88,27 +81,3 @@ module _ (p : FossilizedBirthDeath) (minima maxima : List Float) (k : ℕ) (a : 
   fault-sampling h r er = rw (← ea, ← eb, h, er)
 
 pub ruleset faultLaws = (unsampled-none, unsampled-some, fault-age, fault-sampling)
-
--- ---- the tips of a table
-
-module _ (p : FossilizedBirthDeath) (minima maxima : List Float) where
-  abbrev fault : ℕ → Bool
-  fault = atFault p minima maxima
-
-  pub judge-start : some fault 0 ≡ false
-  unfolding some
-  judge-start = refl
-
-  -- b is whether tip k is at fault
-  module _ (k : ℕ) (b : Bool) (eb : b ≡ fault k) where
-    pub judge-step : some fault k ≡ false → b ≡ false → some fault (k + 1) ≡ false
-    unfolding some
-    judge-step i h = rw (add-one, i, ← eb, h)
-
-    pub judge-fault : (tips : ℕ) → k < tips → b ≡ true → Judged fault tips (Verdicts.Refused (Parameter k))
-    judge-fault tips l h = some-tip k l (sym eb ∙ h)
-
-  pub judge-end : (k tips : ℕ) → some fault k ≡ false → tips ≤ k → Judged fault tips Verdicts.Fine
-  judge-end k tips i l = in-order (λ j J. some-none fault k i j (omega arith))
-
-pub ruleset judgeLaws = (judge-start, judge-step, judge-fault, judge-end)

@@ -1,9 +1,8 @@
--- The age table: a least and a greatest age for each tip. Which tips are at fault, and what a call may answer that finds one. Definitions only.
+-- The age table: a least and a greatest age for each tip. Which tips are at fault, and what a call answers that finds one. Definitions only.
 -- Assumes nothing.
-use mathlib.Core.Path.{_≡_}
-use mathlib.Core.Bool.{Bool, true, false, not, _&&_, _||_, cond}
+use mathlib.Core.Bool.{Bool, not, _&&_, _||_, cond}
 use mathlib.Core.List.{List}
-use Prim.Native.Nat.{ℕ, _<_}
+use Prim.Native.Nat.{ℕ}
 use lib.Dec.{eqb}
 use lib.ListN.{length, getD}
 use lib.Ieee.{Float, nan, lt, le, eq}
@@ -13,7 +12,7 @@ use Rattle.real.specs.Real as Real
 use Rattle.tree.specs.declared.Verdict.{Verdict}
 use Rattle.tree.specs.declared.Verdict.the-variants as Verdicts
 use Rattle.tree.specs.Tree.{Tree, nodesOf, tipsOf}
-use Rattle.tree.specs.New.{counts, validated}
+use Rattle.tree.specs.New.{counts, validated, lowest}
 use Rattle.calls.specs.Call.{andThen}
 use Rattle.process.specs.declared.FossilizedBirthDeath.{FossilizedBirthDeath}
 use Rattle.process.specs.Process.{processFinite}
@@ -45,16 +44,9 @@ atFault p minima maxima k = misaged (p .origin) (ageOf minima maxima k) || unsam
 
 -- ---- which tip is named
 
--- what may be said of a table of so many tips: "the refusal's detail is some tip at fault". Which one is undecided
-pub data Judged (fault : ℕ → Bool) (tips : ℕ) : Verdict → Type 0 where
-  in-order : ((k : ℕ) → k < tips → fault k ≡ false) → Judged fault tips Verdicts.Fine
-  some-tip : (k : ℕ) → k < tips → fault k ≡ true → Judged fault tips (Verdicts.Refused (Parameter k))
-
--- a is what a call gives once its table of ages has been judged
-pub record Undecided {A : Type 0} (fault : ℕ → Bool) (tips : ℕ) (call : Verdict → A) (a : A) : Type 0 where
-  pub verdict : Verdict
-  pub judged : Judged fault tips verdict
-  pub is : a ≡ call verdict
+-- "names the lowest-numbered tip at fault": so many tips are in order, or the lowest that is not is refused
+abbrev pub lowestFault : FossilizedBirthDeath → List Float → List Float → ℕ → Verdict
+lowestFault p minima maxima tips = lowest (atFault p minima maxima) Parameter tips
 
 -- ---- the limits of a call with a table, in the order of the refusals
 
@@ -62,15 +54,18 @@ pub record Undecided {A : Type 0} (fault : ℕ → Bool) (tips : ℕ) (call : Ve
 abbrev pub orParameter : Bool → Verdict
 orParameter limits = cond limits Verdicts.Fine (Verdicts.Refused (Parameter 0))
 
--- the tips of the table, then the other parameters
-abbrev pub tableThen : Bool → Verdict → Verdict
-tableThen limits table = andThen table (orParameter limits)
+-- the tips of the table "ahead of any other 5 of the call"; limits is whether the other parameters are within theirs
+abbrev pub tableThen : FossilizedBirthDeath → List Float → List Float → ℕ → Bool → Verdict
+tableThen p minima maxima tips limits = andThen (lowestFault p minima maxima tips) (orParameter limits)
 
--- of a call on the tree t; table is what was judged of the table, limits whether the other parameters are within theirs
-abbrev pub tableChecked : List Float → List Float → Tree → Bool → Verdict → Verdict
-tableChecked minima maxima t limits table = andThen (tableSized (nodesOf (t .pairs)) minima maxima) (andThen (validated t) (tableThen limits table))
+-- of a call on the tree t
+abbrev pub tableChecked : FossilizedBirthDeath → List Float → List Float → Tree → Bool → Verdict
+tableChecked p minima maxima t limits =
+    let n = nodesOf (t .pairs) in
+    andThen (tableSized n minima maxima) (andThen (validated t) (tableThen p minima maxima (tipsOf n) limits))
 
 -- the table by itself, for n nodes: their number, its lengths, its tips, the fields of the process
-unfoldable pub tableCall : ℕ → List Float → List Float → FossilizedBirthDeath → Verdict → Verdict
-tableCall n minima maxima p table =
-    andThen (cond (counts n) Verdicts.Fine (Verdicts.Refused (Size n))) (andThen (tableSized n minima maxima) (tableThen (processFinite p) table))
+unfoldable pub tableCall : ℕ → List Float → List Float → FossilizedBirthDeath → Verdict
+tableCall n minima maxima p =
+    andThen (cond (counts n) Verdicts.Fine (Verdicts.Refused (Size n)))
+    (andThen (tableSized n minima maxima) (tableThen p minima maxima (tipsOf n) (processFinite p)))

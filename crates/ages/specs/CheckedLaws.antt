@@ -7,10 +7,11 @@ use native.Mathlib.Omega.{arith}
 use lib.Ieee.{Float}
 use Rattle.tree.specs.declared.Verdict.{Verdict}
 use Rattle.tree.specs.declared.Verdict.the-variants as Verdicts
-use Rattle.tree.specs.Tree.{Tree, nodesOf}
+use Rattle.tree.specs.Tree.{Tree, nodesOf, tipsOf}
 use Rattle.tree.specs.New.{validated}
 use Rattle.calls.specs.Call.{andThen}
-use Rattle.ages.specs.Ages.{tableSized, orParameter, tableChecked}
+use Rattle.process.specs.declared.FossilizedBirthDeath.{FossilizedBirthDeath}
+use Rattle.ages.specs.Ages.{tableSized, lowestFault, orParameter, tableChecked}
 
 -- where two checks are fine, each is
 pub both-fine : (a b : Verdict) → andThen a b ≡ Verdicts.Fine → (a ≡ Verdicts.Fine) × (b ≡ Verdicts.Fine)
@@ -18,16 +19,17 @@ both-fine Verdicts.Fine b e = (refl, e)
 both-fine (Verdicts.Refused why) b e = let z : _≡_ {A = ℕ} 0 1 = cc in absurd (omega arith)
 
 -- each of the four is fine
-pub record Passed (minima maxima : List Float) (t : Tree) (limits : Bool) (v : Verdict) : Type 0 where
+pub record Passed (p : FossilizedBirthDeath) (minima maxima : List Float) (t : Tree) (limits : Bool) : Type 0 where
   pub sized : tableSized (nodesOf (t .pairs)) minima maxima ≡ Verdicts.Fine
   pub tree : validated t ≡ Verdicts.Fine
-  pub table : v ≡ Verdicts.Fine
+  pub table : lowestFault p minima maxima (tipsOf (nodesOf (t .pairs))) ≡ Verdicts.Fine
   pub within : orParameter limits ≡ Verdicts.Fine
 
 -- where the checks of a call on a tree with a table are fine, each is
-pub passed : (minima maxima : List Float) (t : Tree) (limits : Bool) (v : Verdict) → tableChecked minima maxima t limits v ≡ Verdicts.Fine → Passed minima maxima t limits v
-passed minima maxima t limits v e =
+pub passed : (p : FossilizedBirthDeath) (minima maxima : List Float) (t : Tree) (limits : Bool) → tableChecked p minima maxima t limits ≡ Verdicts.Fine
+    → Passed p minima maxima t limits
+passed p minima maxima t limits e =
     let a = both-fine (tableSized (nodesOf (t .pairs)) minima maxima) _ e in
     let b = both-fine (validated t) _ (a .1) in
-    let c = both-fine v (orParameter limits) (b .1) in
+    let c = both-fine (lowestFault p minima maxima (tipsOf (nodesOf (t .pairs)))) (orParameter limits) (b .1) in
     record { sized = a .0; tree = b .0; table = c .0; within = c .1 }

@@ -6,6 +6,7 @@ use lib.Ieee.{Float, nan, binary64, ofBits, lt, le, eq}
 use Rattle.answer.specs.declared.Refusal.the-variants.{Size, Parameter}
 use Rattle.real.specs.Real as Real
 use Rattle.tree.specs.declared.Verdict.the-variants as Verdicts
+use Rattle.tree.specs.New.{lowest}
 use Rattle.rules.specs.Samples.{0·0, −0·0, 0·5, 1·0, 2·0}
 use Rattle.process.specs.declared.FossilizedBirthDeath.{FossilizedBirthDeath}
 use Rattle.process.specs.Process.{processFinite}
@@ -56,16 +57,21 @@ pub record AgeRows : Type 0 where
   pub fossil-unsampled : Faulty 1·0 2·0 0·0 ≡ false
   pub all-sampled : Faulty 0·0 0·0 1·0 ≡ false
   -- the call: the number of nodes, the lengths of the table, its tips, then the fields of the process
-  pub even-count : tableCall 4 (0·0 ∷ 0·0 ∷ []) (0·0 ∷ 0·0 ∷ []) (process 1·0 0·5) Verdicts.Fine ≡ Verdicts.Refused (Size 4)
-  pub short-table : tableCall 5 (0·0 ∷ 0·0 ∷ []) (0·0 ∷ 0·0 ∷ 0·0 ∷ []) (process 1·0 0·5) (Verdicts.Refused (Parameter 1)) ≡ Verdicts.Refused (Size 5)
-  pub short-greatest : tableCall 5 (0·0 ∷ 0·0 ∷ 0·0 ∷ []) (0·0 ∷ 0·0 ∷ []) (process 1·0 0·5) Verdicts.Fine ≡ Verdicts.Refused (Size 5)
-  pub fine-table : tableCall 3 (0·0 ∷ 0·0 ∷ []) (0·0 ∷ 0·0 ∷ []) (process 1·0 0·5) Verdicts.Fine ≡ Verdicts.Fine
-  pub field-infinite : tableCall 3 (0·0 ∷ 0·0 ∷ []) (0·0 ∷ 0·0 ∷ []) (process Real.infinity 0·5) Verdicts.Fine ≡ Verdicts.Refused (Parameter 0)
-  pub tip-first : tableCall 3 (0·0 ∷ 0·0 ∷ []) (0·0 ∷ 0·0 ∷ []) (process Real.infinity 0·5) (Verdicts.Refused (Parameter 1)) ≡ Verdicts.Refused (Parameter 1)
+  pub even-count : tableCall 4 (2·0 ∷ 0·0 ∷ []) (1·0 ∷ 0·0 ∷ []) (process 1·0 0·5) ≡ Verdicts.Refused (Size 4)
+  pub short-table : tableCall 5 (0·0 ∷ 2·0 ∷ []) (0·0 ∷ 1·0 ∷ 0·0 ∷ []) (process 1·0 0·5) ≡ Verdicts.Refused (Size 5)
+  pub short-greatest : tableCall 5 (0·0 ∷ 0·0 ∷ 0·0 ∷ []) (0·0 ∷ 0·0 ∷ []) (process 1·0 0·5) ≡ Verdicts.Refused (Size 5)
+  pub fine-table : tableCall 3 (0·0 ∷ 0·0 ∷ []) (0·0 ∷ 0·0 ∷ []) (process 1·0 0·5) ≡ Verdicts.Fine
+  pub field-infinite : tableCall 3 (0·0 ∷ 0·0 ∷ []) (0·0 ∷ 0·0 ∷ []) (process Real.infinity 0·5) ≡ Verdicts.Refused (Parameter 0)
+  pub tip-first : tableCall 3 (0·0 ∷ 2·0 ∷ []) (0·0 ∷ 1·0 ∷ []) (process Real.infinity 0·5) ≡ Verdicts.Refused (Parameter 1)
+  -- the tip that is named: the first of two by one rule, the last alone, and the first of two by different rules, whichever of them comes first
+  pub lowest-of-two : tableCall 5 (0·0 ∷ 2·0 ∷ 2·0 ∷ []) (0·0 ∷ 1·0 ∷ 1·0 ∷ []) (process 1·0 0·5) ≡ Verdicts.Refused (Parameter 1)
+  pub last-alone : tableCall 5 (0·0 ∷ 0·0 ∷ 2·0 ∷ []) (0·0 ∷ 0·0 ∷ 1·0 ∷ []) (process 1·0 0·5) ≡ Verdicts.Refused (Parameter 2)
+  pub ages-then-sampling : tableCall 5 (1·0 ∷ 2·0 ∷ 0·0 ∷ []) (1·0 ∷ 1·0 ∷ 0·0 ∷ []) (process 1·0 0·0) ≡ Verdicts.Refused (Parameter 1)
+  pub sampling-then-ages : tableCall 5 (1·0 ∷ 0·0 ∷ 2·0 ∷ []) (1·0 ∷ 0·0 ∷ 1·0 ∷ []) (process 1·0 0·0) ≡ Verdicts.Refused (Parameter 1)
 
 -- each by computation
 pub age-rows : AgeRows
-unfolding atFault misaged unsampled tableCall processFinite ofBits lt le eq
+unfolding atFault misaged unsampled lowest tableCall processFinite ofBits lt le eq
 age-rows = record {
   least-nan = refl;
   greatest-infinite = refl;
@@ -88,4 +94,8 @@ age-rows = record {
   fine-table = refl;
   field-infinite = refl;
   tip-first = refl;
+  lowest-of-two = refl;
+  last-alone = refl;
+  ages-then-sampling = refl;
+  sampling-then-ages = refl;
 }

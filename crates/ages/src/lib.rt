@@ -5,10 +5,10 @@ ghost use mathlib.Core.Bool.{_&&_};
 ghost use Prim.Native.Nat.{_<_};
 ghost use lib.Dec.{eqb};
 ghost use lib.ListN.{length};
-ghost use Rattle.tree.specs.Tree.{nodesOf, tipsOf};
+ghost use Rattle.tree.specs.Tree.{tipsOf};
 ghost use Rattle.tree.specs.New.{counts};
 ghost use Rattle.tree.specs.Given.{treeOf};
-ghost use Rattle.ages.specs.Ages.{ageOf, misaged, unsampled, atFault, Judged, Undecided, tableThen, tableChecked, tableCall};
+ghost use Rattle.ages.specs.Ages.{ageOf, misaged, unsampled, atFault, lowestFault, tableThen, tableChecked, tableCall};
 use answer::Refusal;
 use process::FossilizedBirthDeath;
 use tree::Verdict;
@@ -79,9 +79,9 @@ fn is_at_fault(minima: &[f64], maxima: &[f64], process: FossilizedBirthDeath, ti
     is_unsampled(process.present_sampling, age)
 }
 
-// Whether the tips of a table are in order, or one that is not.
+// Whether the tips of a table are in order, or the lowest that is not.
 fn judge(minima: &[f64], maxima: &[f64], process: FossilizedBirthDeath, tips: usize) -> Verdict
-    ensures { λ r. ⌜ Judged (atFault process (now (minima .entry)) (now (maxima .entry))) tips r ⌝ }
+    ensures { λ r. ⌜ r ≡ lowestFault process (now (minima .entry)) (now (maxima .entry)) tips ⌝ }
 {
     let mut tip = 0;
     while tip < tips {
@@ -101,7 +101,7 @@ fn check_table(
     tips: usize,
     limits: bool,
 ) -> Verdict
-    ensures { λ r. ⌜ Undecided (atFault process (now (minima .entry)) (now (maxima .entry))) tips (tableThen limits) r ⌝ }
+    ensures { λ r. ⌜ r ≡ tableThen process (now (minima .entry)) (now (maxima .entry)) tips limits ⌝ }
 {
     match judge(minima, maxima, process, tips) {
         Verdict::Refused(why) => {
@@ -143,7 +143,7 @@ pub fn validate(
     process: FossilizedBirthDeath,
     nodes: usize,
 ) -> Verdict
-    ensures { λ r. ⌜ Undecided (atFault process (now (minima .entry)) (now (maxima .entry))) (tipsOf nodes) (tableCall nodes (now (minima .entry)) (now (maxima .entry)) process) r ⌝ }
+    ensures { λ r. ⌜ r ≡ tableCall nodes (now (minima .entry)) (now (maxima .entry)) process ⌝ }
 {
     if is_count(nodes) {
         let tips = tips(nodes);
@@ -166,7 +166,7 @@ pub fn check(
     process: FossilizedBirthDeath,
     limits: bool,
 ) -> Verdict
-    ensures { λ r. ⌜ Undecided (atFault process (now (minima .entry)) (now (maxima .entry))) (tipsOf (nodesOf (now (pairs .entry)))) (tableChecked (now (minima .entry)) (now (maxima .entry)) (treeOf (now (pairs .entry)) (now (parents .entry)) (now (heights .entry)) root) limits) r ⌝ }
+    ensures { λ r. ⌜ r ≡ tableChecked process (now (minima .entry)) (now (maxima .entry)) (treeOf (now (pairs .entry)) (now (parents .entry)) (now (heights .entry)) root) limits ⌝ }
 {
     let nodes = pairs.len() / 2;
     let tips = tips(nodes);

@@ -9,4 +9,5 @@ pub mod PlaceLaws
 pub mod SizeLaws
 pub mod ListLaws
 pub mod ScanLaws
+pub mod LowestLaws
 pub mod BoundedLaws

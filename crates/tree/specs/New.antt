@@ -93,7 +93,7 @@ shapeOf n pairs = scanned n pairs (scan n pairs n)
 unfoldable pub misdated : Tree → ℕ → Bool
 misdated t k = lt (height t k) Real.zero || not (finite (height t k)) || (not (eqb k (t .root)) && not (le (height t k) (height t (parent t k))))
 
--- the lowest of the first m nodes at which the test holds is refused
+-- the lowest of the first m numbers at which the test holds is refused
 abbrev pub orRefused : Verdict → Bool → Refusal → Verdict
 orRefused (Verdicts.Refused why) b next = Verdicts.Refused why
 orRefused Verdicts.Fine b next = cond b (Verdicts.Refused next) Verdicts.Fine

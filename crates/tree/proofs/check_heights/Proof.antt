@@ -6,7 +6,7 @@ use Rattle.answer.specs.declared.Refusal.the-variants.{Height}
 use Rattle.tree.specs.declared.Verdict.the-variants.{Fine}
 use Rattle.tree.specs.New.{misdated, lowest}
 use Rattle.tree.specs.Given.{datesIn}
-use Rattle.tree.proofs.DateLaws.{lowestLaws}
+use Rattle.tree.specs.LowestLaws.{lowestLaws}
 use borrow.Author.Needs.{needs}
 use Rattle.tree.proofs.check_heights.Statement.{statement}
 use Rattle.tree.proofs.check_heights.Tie as tie
