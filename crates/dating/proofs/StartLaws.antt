@@ -18,8 +18,8 @@ use Rattle.accepted.specs.ValidatedLaws.{fine-valid}
 use Rattle.calls.specs.Draws.{least}
 use Rattle.process.specs.declared.FossilizedBirthDeath.{FossilizedBirthDeath}
 use Rattle.process.specs.Process.{processFinite}
-use Rattle.ages.specs.Ages.{atFault, Undecided, tableChecked}
-use Rattle.dating.specs.Initialize.{oldest, stretch, startOf, overflowsAt, initialTo, startFits, allFinite, Initialized, initialized, initializeCall}
+use Rattle.ages.specs.Ages.{tableChecked}
+use Rattle.dating.specs.Initialize.{oldest, stretch, startOf, overflowsAt, initialTo, startFits, allFinite, initialized, initializeCall}
 use Rattle.dating.specs.Given.{startWith, startIn, startCall}
 use Rattle.ages.specs.CheckedLaws.{passed}
 use Rattle.dating.proofs.InitializeLaws.{initial-whole}
@@ -70,29 +70,26 @@ pub ruleset startLaws = (start-not-finite, start-done)
 -- r is what the checks say
 module _ (p : FossilizedBirthDeath) (minima maxima : List Float) (pairs parents : List ℕ) (hs : List Float) (root : ℕ) (limits : Bool)
     (el : limits ≡ startFits minima maxima p (treeOf pairs [] hs root)) (r : Verdict)
-    (u : Undecided (atFault p minima maxima) (tipsOf (nodesOf pairs)) (tableChecked minima maxima (treeOf pairs parents hs root) limits) r) where
+    (u : r ≡ tableChecked p minima maxima (treeOf pairs parents hs root) limits) where
   abbrev t : Tree
   t = treeOf pairs parents hs root
-
-  abbrev Gives : Initialized → Type 0
-  Gives a = Undecided (atFault p minima maxima) (tipsOf (nodesOf pairs)) (initializeCall minima maxima p t) a
 
   -- the limits are those of the call
   fits : limits ≡ startFits minima maxima p t
   unfolding startFits height
   fits = el
 
-  pub initialize-refused : (why : Refusal) → r ≡ Verdicts.Refused why → Gives (initialized (Verdicts.Refused why) hs)
+  pub initialize-refused : (why : Refusal) → r ≡ Verdicts.Refused why → initialized (Verdicts.Refused why) hs ≡ initializeCall minima maxima p t
   unfolding initializeCall
-  initialize-refused why y = record { verdict = u .verdict; judged = u .judged; is = rw (← fits, ← u .is, y) }
+  initialize-refused why y = rw (← fits, ← u, y)
 
   pub initialize-done : r ≡ Verdicts.Fine → (w : Verdict) (new : List Float)
-      → initialized w new ≡ startCall (startIn (length hs) minima maxima (p .origin) (getD hs root nan)) (kinIn [] hs) → Gives (initialized w new)
+      → initialized w new ≡ startCall (startIn (length hs) minima maxima (p .origin) (getD hs root nan)) (kinIn [] hs) → initialized w new ≡ initializeCall minima maxima p t
   unfolding initializeCall allFinite height
   initialize-done y w new e =
-      let c = passed minima maxima t limits (u .verdict) (sym (u .is) ∙ y) in
+      let c = passed p minima maxima t limits (sym u ∙ y) in
       let long : length hs ≡ nodesOf pairs = fine-valid t (c .tree) .sized .heights in
       let whole = initial-whole (startOf minima maxima (p .origin) t) t (nodesOf pairs) in
-      record { verdict = u .verdict; judged = u .judged; is = rw (← fits, ← u .is, y, whole, ← long) e }
+      rw (← fits, ← u, y, whole, ← long) e
 
 pub ruleset initializeLaws = (initialize-refused, initialize-done)

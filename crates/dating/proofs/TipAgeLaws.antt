@@ -27,14 +27,14 @@ use Rattle.calls.specs.declared.Height.{Height}
 use Rattle.calls.specs.declared.Height.the-variants as Heights
 use Rattle.calls.specs.declared.Turn.{Turn}
 use Rattle.calls.specs.declared.Turned.the-variants as Turns
-use Rattle.calls.specs.Call.{Outcome, moved, Called, called, leaves}
+use Rattle.calls.specs.Call.{Outcome, moved, called, leaves}
 use Rattle.calls.specs.Given.{after, afterOn, turnOf, turnedBack, answeredOf, heightOf}
 use Rattle.calls.specs.EntryLaws.{answered-run}
 use Rattle.calls.specs.HeightLaws.{height-spent, height-inside, height-outside}
 use Rattle.process.specs.declared.FossilizedBirthDeath.{FossilizedBirthDeath}
 use Rattle.process.specs.Process.{processFinite}
 use Rattle.ages.specs.declared.TipAge.{TipAge}
-use Rattle.ages.specs.Ages.{ageOf, atFault, Undecided, tableChecked}
+use Rattle.ages.specs.Ages.{ageOf, tableChecked}
 use Rattle.dating.specs.TipAge.{ageing, tipAge, agesChecked, tipAgeCall}
 use Rattle.dating.specs.Given.{leftTo}
 
@@ -126,27 +126,23 @@ pub ruleset limitedLaws = (limited-process, limited-allowance)
 -- v is what the checks say
 module _ (p : FossilizedBirthDeath) (minima maxima : List Float) (pairs parents : List ℕ) (hs : List Float) (root : ℕ) (g : Random) (allowance : ℕ) (limits : Bool)
     (el : limits ≡ (processFinite p && allowed allowance)) (v : Verdict)
-    (u : Undecided (atFault p minima maxima) (tipsOf (nodesOf pairs)) (tableChecked minima maxima (treeOf pairs parents hs root) limits) v) where
+    (u : v ≡ tableChecked p minima maxima (treeOf pairs parents hs root) limits) where
   abbrev tree : Tree
   tree = treeOf pairs parents hs root
 
-  abbrev Leaves : Called → Type 0
-  Leaves a = Undecided (atFault p minima maxima) (tipsOf (nodesOf pairs)) (tipAgeCall minima maxima p tree g allowance) a
-
   -- the checks are those of the call
-  same : v ≡ agesChecked minima maxima p tree allowance (u .verdict)
+  same : v ≡ agesChecked minima maxima p tree allowance
   unfolding agesChecked
-  same = rw (← el) (u .is)
+  same = rw (← el) u
 
-  pub propose-refused : (why : Refusal) → v ≡ Verdicts.Refused why → (r : Answered) → r ≡ turnedBack why g → Leaves (called (r .answer) (r .random) pairs parents hs)
+  pub propose-refused : (why : Refusal) → v ≡ Verdicts.Refused why → (r : Answered) → r ≡ turnedBack why g → called (r .answer) (r .random) pairs parents hs ≡ tipAgeCall minima maxima p tree g allowance
   unfolding tipAgeCall leaves
-  propose-refused why y r er = record { verdict = u .verdict; judged = u .judged; is = rw (← same, y, er) }
+  propose-refused why y r er = rw (← same, y, er)
 
   pub propose-done : v ≡ Verdicts.Fine → (turn : Turn) (new : List Float)
       → after turn pairs parents new ≡ turnOf tree (supplyOf g allowance) (run (tipAge minima maxima tree) (supplyOf g allowance))
-      → (r : Answered) → r ≡ answeredOf (turn .turned) (turn .supply) g allowance → Leaves (called (r .answer) (r .random) pairs parents new)
+      → (r : Answered) → r ≡ answeredOf (turn .turned) (turn .supply) g allowance → called (r .answer) (r .random) pairs parents new ≡ tipAgeCall minima maxima p tree g allowance
   unfolding tipAgeCall
-  propose-done y turn new e r er =
-      record { verdict = u .verdict; judged = u .judged; is = rw (← same, y) (answered-run tree g allowance turn pairs parents new (tipAge minima maxima tree) e r er) }
+  propose-done y turn new e r er = rw (← same, y) (answered-run tree g allowance turn pairs parents new (tipAge minima maxima tree) e r er)
 
 pub ruleset proposeLaws = (propose-refused, propose-done)

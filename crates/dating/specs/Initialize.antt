@@ -94,9 +94,8 @@ abbrev pub orKept : Verdict → List Float → List Float → Initialized
 orKept (Verdicts.Refused why) old new = initialized (Verdicts.Refused why) old
 orKept Verdicts.Fine old new = initialized Verdicts.Fine new
 
--- table is what was judged of the table
-unfoldable pub initializeCall : List Float → List Float → FossilizedBirthDeath → Tree → Verdict → Initialized
-initializeCall minima maxima p t table =
+unfoldable pub initializeCall : List Float → List Float → FossilizedBirthDeath → Tree → Initialized
+initializeCall minima maxima p t =
     let n = nodesOf (t .pairs) in
     let s = startOf minima maxima (p .origin) t in
-    orKept (andThen (tableChecked minima maxima t (startFits minima maxima p t) table) (allFinite s t)) (t .heights) (initialTo s t n)
+    orKept (andThen (tableChecked p minima maxima t (startFits minima maxima p t)) (allFinite s t)) (t .heights) (initialTo s t n)

@@ -1,7 +1,6 @@
 -- Calls with an age table on tree F as rows of one statement on the definitions (`dating-rows`): of TipAge from the state 1,2,3,4 and another, and of
 -- `initialize`, with those that decline or are turned back. Of what each leaves, all is said. Assumes nothing.
 use mathlib.Core.Path.{_≡_, refl}
-use mathlib.Core.Bool.{true, false, _||_}
 use mathlib.Core.List.{List, [], _∷_}
 use Prim.Native.Nat.{ℕ}
 use lib.Ieee.{Float, binary64, ofBits, lt, le, eq, add, sub, mul, div, round}
@@ -15,7 +14,6 @@ use Rattle.random.specs.Generator.{wordOf, next, uniformOf}
 use Rattle.random.specs.Xoshiro.{output, step, stepped}
 use Rattle.random.specs.Draw.{run, pick, onward, wordFrom, untilFrom, uniform, draw, _>>=_, below, fair}
 use Rattle.real.specs.Real as Real
-use Rattle.tree.specs.declared.Verdict.{Verdict}
 use Rattle.tree.specs.declared.Verdict.the-variants as Verdicts
 use Rattle.tree.specs.Tree.{Tree, parent, height, subtree}
 use Rattle.tree.specs.New.{validated, judged, scanned, scan, visit, thenAdopt, adopt, joined, roots, agree, misdated, lowest}
@@ -45,28 +43,24 @@ from origin = record { birth = 1·0; death = 0·5; «fossil_sampling» = 0·5; �
 abbrev pub 10·0 : Float
 10·0 = ofBits binary64 0x4024_0000_0000_0000
 
--- none of the three tips is at fault
-abbrev pub Faultless : List Float → List Float → Type 0
-Faultless minima maxima = atFault (from 10·0) minima maxima 0 || atFault (from 10·0) minima maxima 1 || atFault (from 10·0) minima maxima 2 ≡ false
-
--- TipAge on t, with a table that is fine, makes of it u by so many draws, and leaves the generator h
+-- TipAge on t makes of it u by so many draws, and leaves the generator h
 abbrev pub Ages : List Float → List Float → Tree → Random → ℕ → Tree → ℕ → Random → Type 0
 Ages minima maxima t g allowance u draws h =
-    tipAgeCall minima maxima (from 10·0) t g allowance Verdicts.Fine ≡ calledOn (Answers.Moved (record { root = u .root; draws = draws; ratio = Even })) h u
+    tipAgeCall minima maxima (from 10·0) t g allowance ≡ calledOn (Answers.Moved (record { root = u .root; draws = draws; ratio = Even })) h u
 
 abbrev pub Declines : List Float → List Float → Tree → Random → ℕ → ℕ → Random → Type 0
-Declines minima maxima t g allowance draws h = tipAgeCall minima maxima (from 10·0) t g allowance Verdicts.Fine ≡ calledOn (Answers.Declined draws) h t
+Declines minima maxima t g allowance draws h = tipAgeCall minima maxima (from 10·0) t g allowance ≡ calledOn (Answers.Declined draws) h t
 
--- with an origin, and with what is said of the table
-abbrev pub Refuses : List Float → List Float → Float → Tree → Random → ℕ → Verdict → Refusal → Type 0
-Refuses minima maxima origin t g allowance table why = tipAgeCall minima maxima (from origin) t g allowance table ≡ calledOn (Answers.Refused why) g t
+-- with an origin
+abbrev pub Refuses : List Float → List Float → Float → Tree → Random → ℕ → Refusal → Type 0
+Refuses minima maxima origin t g allowance why = tipAgeCall minima maxima (from origin) t g allowance ≡ calledOn (Answers.Refused why) g t
 
--- `initialize` on t, with a table that is fine, gives these heights
+-- `initialize` on t gives these heights
 abbrev pub Initializes : List Float → List Float → Tree → List Float → Type 0
-Initializes minima maxima t new = initializeCall minima maxima (from 10·0) t Verdicts.Fine ≡ initialized Verdicts.Fine new
+Initializes minima maxima t new = initializeCall minima maxima (from 10·0) t ≡ initialized Verdicts.Fine new
 
-abbrev pub Keeps : List Float → List Float → Tree → Verdict → Refusal → Type 0
-Keeps minima maxima t table why = initializeCall minima maxima (from 10·0) t table ≡ initialized (Verdicts.Refused why) (t .heights)
+abbrev pub Keeps : List Float → List Float → Tree → Refusal → Type 0
+Keeps minima maxima t why = initializeCall minima maxima (from 10·0) t ≡ initialized (Verdicts.Refused why) (t .heights)
 
 -- ---- the rows
 
@@ -124,13 +118,6 @@ dated = ofBits binary64 0x3fdc_cccc_cccc_cccc
 
 -- a row is an equation on the whole of what a call leaves
 pub record DatingRows : Type 0 where
-  -- the tables of the calls that are not turned back
-  pub faultless-first : Faultless (three 0·1 0·0 0·0) (three 0·7 0·0 0·0)
-  pub faultless-second : Faultless (three 0·0 0·1 0·0) (three 0·0 1·5 0·0)
-  pub faultless-present : Faultless present present
-  pub faultless-old : Faultless (three 1·5 0·0 0·0) (three 2·5 0·0 0·0)
-  pub faultless-fossil : Faultless (three 0·2 0·0 0·0) (three 0·7 0·0 0·0)
-  pub faultless-fossils : Faultless (three 1·1 0·2 0·0) (three 2·4 0·7 0·0)
   -- tip 0, to its greatest age; tip 1, to its parent
   pub age-greatest : Ages (three 0·1 0·0 0·0) (three 0·7 0·0 0·0) F start 9 (F-at lower 0·0 0·0 1·0 2·0) 2 after-two
   pub age-parent : Ages (three 0·0 0·1 0·0) (three 0·0 1·5 0·0) F upper 9 (F-at 0·0 middle 0·0 1·0 2·0) 2 upper-two
@@ -139,15 +126,20 @@ pub record DatingRows : Type 0 where
   pub age-above : Declines (three 1·5 0·0 0·0) (three 2·5 0·0 0·0) F start 9 1 after-one
   -- as many draws as it takes are enough, and one less is a 6
   pub age-exact : Ages (three 0·1 0·0 0·0) (three 0·7 0·0 0·0) F start 2 (F-at lower 0·0 0·0 1·0 2·0) 2 after-two
-  pub age-spent : Refuses (three 0·1 0·0 0·0) (three 0·7 0·0 0·0) 10·0 F start 1 Verdicts.Fine (Refusals.Allowance 1)
+  pub age-spent : Refuses (three 0·1 0·0 0·0) (three 0·7 0·0 0·0) 10·0 F start 1 (Refusals.Allowance 1)
   -- a field and an allowance outside their limits
-  pub age-origin : Refuses present present Real.infinity F start 9 Verdicts.Fine (Refusals.Parameter 0)
-  pub age-no-draws : Refuses present present 10·0 F start 0 Verdicts.Fine (Refusals.Parameter 0)
-  -- a tip at fault, where the interval includes the present, is named; a tree's fault comes before it, and a table's length before that
-  pub fault-at-1 : atFault (from 10·0) present (three 0·0 1·0 0·0) 1 ≡ true
-  pub age-fault : Refuses present (three 0·0 1·0 0·0) 10·0 F start 9 (Verdicts.Refused (Refusals.Parameter 1)) (Refusals.Parameter 1)
-  pub age-tree-first : Refuses present (three 0·0 1·0 0·0) 10·0 (F-at 0·0 0·0 3·0 1·0 2·0) start 9 (Verdicts.Refused (Refusals.Parameter 1)) (Refusals.Height 2)
-  pub age-length-first : Refuses (0·0 ∷ 0·0 ∷ []) present 10·0 (F-at 0·0 0·0 3·0 1·0 2·0) start 9 Verdicts.Fine (Refusals.Size 5)
+  pub age-origin : Refuses present present Real.infinity F start 9 (Refusals.Parameter 0)
+  pub age-no-draws : Refuses present present 10·0 F start 0 (Refusals.Parameter 0)
+  -- the lowest tip at fault is named: of two whose intervals include the present, ahead of an allowance of 0, of one over the most and of an
+  -- infinite origin, and the last where it alone is at fault
+  pub age-fault : Refuses present (three 0·0 1·0 1·0) 10·0 F start 9 (Refusals.Parameter 1)
+  pub age-fault-none : Refuses present (three 0·0 1·0 0·0) 10·0 F start 0 (Refusals.Parameter 1)
+  pub age-fault-many : Refuses present (three 0·0 1·0 0·0) 10·0 F start 65536 (Refusals.Parameter 1)
+  pub age-fault-origin : Refuses present (three 0·0 1·0 0·0) Real.infinity F start 9 (Refusals.Parameter 1)
+  pub age-fault-last : Refuses present (three 0·0 0·0 1·0) 10·0 F start 9 (Refusals.Parameter 2)
+  -- a tree's fault comes before it, and a table's length before that
+  pub age-tree-first : Refuses present (three 0·0 1·0 0·0) 10·0 (F-at 0·0 0·0 3·0 1·0 2·0) start 9 (Refusals.Height 2)
+  pub age-length-first : Refuses (0·0 ∷ 0·0 ∷ []) present 10·0 (F-at 0·0 0·0 3·0 1·0 2·0) start 9 (Refusals.Size 5)
   -- one fossil, then two of which the first is the older
   pub initial-fossil : Initializes (three 0·2 0·0 0·0) (three 0·7 0·0 0·0) F
       (dated ∷ 0·0 ∷ 0·0 ∷ ofBits binary64 0x4011_147a_e147_ae15 ∷ ofBits binary64 0x4020_2e14_7ae1_47ae ∷ [])
@@ -156,12 +148,13 @@ pub record DatingRows : Type 0 where
   -- bits that tell the order of the operations
   pub initial-rounded : Initializes (three 0·1 0·0 0·0) (three 0·7 0·0 0·0) (F-at 0·0 0·0 0·0 0·7 3·3)
       (ofBits binary64 0x3fd9_9999_9999_999a ∷ 0·0 ∷ 0·0 ∷ ofBits binary64 0x4000_3b94_03b9_403b ∷ ofBits binary64 0x4020_28f5_c28f_5c28 ∷ [])
-  -- a root at 0, and a tip at fault
-  pub initial-flat : Keeps present present (F-at 0·0 0·0 0·0 0·0 0·0) Verdicts.Fine (Refusals.Parameter 0)
-  pub initial-fault : Keeps present (three 0·0 1·0 0·0) F (Verdicts.Refused (Refusals.Parameter 1)) (Refusals.Parameter 1)
+  -- a root at 0, a tip at fault, and both
+  pub initial-flat : Keeps present present (F-at 0·0 0·0 0·0 0·0 0·0) (Refusals.Parameter 0)
+  pub initial-fault : Keeps present (three 0·0 1·0 1·0) F (Refusals.Parameter 1)
+  pub initial-fault-flat : Keeps present (three 0·0 0·0 1·0) (F-at 0·0 0·0 0·0 0·0 0·0) (Refusals.Parameter 2)
   -- 7 at the lowest internal node, where the factor is not finite: an infinite height, and one that is not a number
-  pub initial-infinite : Keeps present present (F-at 0·0 0·0 0·0 tiny tiny) Verdicts.Fine (Refusals.NotFinite 3)
-  pub initial-no-number : Keeps present present (F-at 0·0 0·0 0·0 0·0 tiny) Verdicts.Fine (Refusals.NotFinite 3)
+  pub initial-infinite : Keeps present present (F-at 0·0 0·0 0·0 tiny tiny) (Refusals.NotFinite 3)
+  pub initial-no-number : Keeps present present (F-at 0·0 0·0 0·0 0·0 tiny) (Refusals.NotFinite 3)
 
 -- each by computation
 pub dating-rows : DatingRows
@@ -171,12 +164,6 @@ unfolding tipAgeCall agesChecked tipAge ageing atFault misaged unsampled process
     run pick onward wordFrom untilFrom uniform draw _>>=_ below fair wordOf next output step stepped rotl uniformOf
     interpolated drawnHeight least tipAgeDeclines setHeight parent height ofBits lt le eq add sub mul div round
 dating-rows = record {
-  faultless-first = refl;
-  faultless-second = refl;
-  faultless-present = refl;
-  faultless-old = refl;
-  faultless-fossil = refl;
-  faultless-fossils = refl;
   age-greatest = refl;
   age-parent = refl;
   age-fixed = refl;
@@ -185,8 +172,11 @@ dating-rows = record {
   age-spent = refl;
   age-origin = refl;
   age-no-draws = refl;
-  fault-at-1 = refl;
   age-fault = refl;
+  age-fault-none = refl;
+  age-fault-many = refl;
+  age-fault-origin = refl;
+  age-fault-last = refl;
   age-tree-first = refl;
   age-length-first = refl;
   initial-fossil = refl;
@@ -194,6 +184,7 @@ dating-rows = record {
   initial-rounded = refl;
   initial-flat = refl;
   initial-fault = refl;
+  initial-fault-flat = refl;
   initial-infinite = refl;
   initial-no-number = refl;
 }

@@ -27,6 +27,7 @@ use Rattle.tree.specs.Tree.{Tree, nodesOf, tipsOf, parent, height}
 use Rattle.tree.specs.Given.{treeOf}
 use Rattle.tree.specs.New.{Accepted}
 use Rattle.tree.specs.Valid.{Valid}
+use Rattle.tree.specs.LowestLaws.{lowest-fine}
 use Rattle.accepted.specs.RootLaws.{root-inner}
 use Rattle.accepted.specs.AcceptedLaws.{valid-accepted}
 use Rattle.accepted.specs.ValidatedLaws.{fine-valid}
@@ -39,11 +40,11 @@ use Rattle.reversal.specs.FailedLaws.{passed}
 use Rattle.process.specs.declared.FossilizedBirthDeath.{FossilizedBirthDeath}
 use Rattle.process.specs.Process.{processFinite}
 use Rattle.ages.specs.declared.TipAge.{TipAge}
-use Rattle.ages.specs.Ages.{ageOf, atFault, Judged, tableChecked}
+use Rattle.ages.specs.Ages.{ageOf, atFault, tableChecked}
 use Rattle.ages.specs.CheckedLaws as Checks
 use Rattle.dating.specs.Initialize.{two, fourFifths, midpoint, oldest, stretch, Start, startOf, initialHeight, overflowsAt, initialTo, startFits, allFinite, orKept, initializeCall}
 use Rattle.dating.specs.AgeValidLaws.{Sound, sound-age}
-use Rattle.dating.specs.AgeCheckLaws.{judged-sound, within-fine}
+use Rattle.dating.specs.AgeCheckLaws.{within-fine}
 
 -- ---- a tip's new height
 
@@ -295,24 +296,23 @@ orKept-fine : (x : Verdict) (old new : List Float) → orKept x old new .answer 
 orKept-fine Verdicts.Fine old new e = (refl, refl)
 orKept-fine (Verdicts.Refused why) old new e = clash cc
 
--- `Tree::new` accepts the tree with the heights that `initialize` leaves where it answers Fine, the table being said to be fine or some tip at fault named
-pub initialize-accepted : (minima maxima : List Float) (p : FossilizedBirthDeath) (t : Tree) (table : Verdict)
-    → Judged (atFault p minima maxima) (tipsOf (nodesOf (t .pairs))) table → initializeCall minima maxima p t table .answer ≡ Verdicts.Fine
-    → Accepted (treeOf (t .pairs) (t .parents) (initializeCall minima maxima p t table .heights) (t .root))
+-- `Tree::new` accepts the tree with the heights that `initialize` leaves where it answers Fine
+pub initialize-accepted : (minima maxima : List Float) (p : FossilizedBirthDeath) (t : Tree) → initializeCall minima maxima p t .answer ≡ Verdicts.Fine
+    → Accepted (treeOf (t .pairs) (t .parents) (initializeCall minima maxima p t .heights) (t .root))
 unfolding initializeCall startFits
-initialize-accepted minima maxima p t table j e =
+initialize-accepted minima maxima p t e =
     let n = nodesOf (t .pairs) in
     let s = startOf minima maxima (p .origin) t in
-    let k = orKept-fine (andThen (tableChecked minima maxima t (startFits minima maxima p t) table) (allFinite s t)) (t .heights) (initialTo s t n) e in
-    let b = Checks.both-fine (tableChecked minima maxima t (startFits minima maxima p t) table) (allFinite s t) (k .0) in
-    let c = Checks.passed minima maxima t (startFits minima maxima p t) table (b .0) in
+    let k = orKept-fine (andThen (tableChecked p minima maxima t (startFits minima maxima p t)) (allFinite s t)) (t .heights) (initialTo s t n) e in
+    let b = Checks.both-fine (tableChecked p minima maxima t (startFits minima maxima p t)) (allFinite s t) (k .0) in
+    let c = Checks.passed p minima maxima t (startFits minima maxima p t) (b .0) in
     let w = within-fine (startFits minima maxima p t) (c .within) in
     let a1 = processFinite p in
     let a2 = lt Real.zero (height t (t .root)) in
     let a3 = lt (oldest minima maxima (tipsOf n)) (p .origin) in
     let g : Fit minima maxima p t = record {
       valid = fine-valid t (c .tree);
-      sound = λ i h. sound-age p minima maxima i (judged-sound _ _ table j (c .table) i h);
+      sound = λ i h. sound-age p minima maxima i (lowest-fine (atFault p minima maxima) _ (tipsOf n) (c .table) i h);
       origin = finite-origin p (and-l a1 a2 (and-l (a1 && a2) a3 w));
       root = and-r a1 a2 (and-l (a1 && a2) a3 w);
       young = and-r (a1 && a2) a3 w;

@@ -4,19 +4,16 @@ use mathlib.Core.List.{List, [], _∷_}
 use Prim.Native.Nat.{ℕ}
 use lib.Ieee.{Float}
 use Rattle.random.specs.declared.Random.{Random}
-use Rattle.tree.specs.declared.Verdict.{Verdict}
-use Rattle.tree.specs.Tree.{Tree, nodesOf, tipsOf}
+use Rattle.tree.specs.Tree.{Tree}
 use Rattle.moves.specs.Moves.{moveCall}
 use Rattle.moves.specs.Ends.{treeLeft, Settled, Asked}
 use Rattle.process.specs.declared.FossilizedBirthDeath.{FossilizedBirthDeath}
-use Rattle.ages.specs.Ages.{atFault, Judged}
 use Rattle.dating.specs.TipAge.{tipAgeCall}
 
--- a call of TipAge that is asked for: a table of ages and what was judged of it, a process, a generator and an allowance
+-- a call of TipAge that is asked for: a table of ages, a process, a generator and an allowance
 pub record AskedAge : Type 0 where
   pub minima : List Float
   pub maxima : List Float
-  pub table : Verdict
   pub process : FossilizedBirthDeath
   pub random : Random
   pub allowance : ℕ
@@ -29,13 +26,12 @@ pub data Step : Type 0 where
 -- the tree that a step leaves
 abbrev pub treeStepped : Step → Tree → Tree
 treeStepped (moves c) t = treeLeft (moveCall (c .move) t (c .random) (c .allowance)) (t .root)
-treeStepped (ages c) t = treeLeft (tipAgeCall (c .minima) (c .maxima) (c .process) t (c .random) (c .allowance) (c .table)) (t .root)
+treeStepped (ages c) t = treeLeft (tipAgeCall (c .minima) (c .maxima) (c .process) t (c .random) (c .allowance)) (t .root)
 
--- what has to be known of a step on the tree t: of a move, what is asked of the tree that it leaves; of TipAge, that its table is said to be fine or some tip
--- at fault is named
+-- what has to be known of a step on the tree t: of a move, what is asked of the tree that it leaves; of TipAge, nothing
 abbrev pub Warranted : Step → Tree → Type 0
 Warranted (moves c) t = Settled (c .move) (treeStepped (moves c) t)
-Warranted (ages c) t = Judged (atFault (c .process) (c .minima) (c .maxima)) (tipsOf (nodesOf (t .pairs))) (c .table)
+Warranted (ages c) t = Unit {0}
 
 -- the tree after some steps, each made on what the one before it left
 unfoldable pub treeSteps : List Step → Tree → Tree

@@ -10,7 +10,7 @@ use Rattle.dating.specs.AgeDemands.{age-stays}
 -- one step
 step-accepted : (s : Step) (t : Tree) → Accepted t → Warranted s t → Accepted (treeStepped s t)
 step-accepted (moves c) t p w = stays-settled (c .move) t (c .random) p (c .allowance) w
-step-accepted (ages c) t p w = age-stays (c .minima) (c .maxima) (c .process) t (c .random) (c .table) w (c .allowance) p
+step-accepted (ages c) t p w = age-stays (c .minima) (c .maxima) (c .process) t (c .random) (c .allowance) p
 
 -- from an accepted tree, steps that are warranted leave a tree that `Tree::new` accepts
 pub steps-accepted : (steps : List Step) (t : Tree) → Accepted t → AllWarranted steps t → Accepted (treeSteps steps t)

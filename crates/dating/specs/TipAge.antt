@@ -27,10 +27,9 @@ tipAge minima maxima t = do
   k ← draw (below (tipsOf (nodesOf (t .pairs))))
   ageing t k (ageOf minima maxima k)
 
--- the checks of the call, in the order of the refusals; table is what was judged of the table
-unfoldable pub agesChecked : List Float → List Float → FossilizedBirthDeath → Tree → ℕ → Verdict → Verdict
-agesChecked minima maxima p t allowance table = tableChecked minima maxima t (processFinite p && allowed allowance) table
+-- the checks of the call, in the order of the refusals
+unfoldable pub agesChecked : List Float → List Float → FossilizedBirthDeath → Tree → ℕ → Verdict
+agesChecked minima maxima p t allowance = tableChecked p minima maxima t (processFinite p && allowed allowance)
 
-unfoldable pub tipAgeCall : List Float → List Float → FossilizedBirthDeath → Tree → Random → ℕ → Verdict → Called
-tipAgeCall minima maxima p t g allowance table =
-    leaves t g (runCall (agesChecked minima maxima p t allowance table) (tipAge minima maxima t) g allowance)
+unfoldable pub tipAgeCall : List Float → List Float → FossilizedBirthDeath → Tree → Random → ℕ → Called
+tipAgeCall minima maxima p t g allowance = leaves t g (runCall (agesChecked minima maxima p t allowance) (tipAge minima maxima t) g allowance)

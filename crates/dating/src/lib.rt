@@ -6,14 +6,12 @@ ghost use Prim.Native.Nat.{ℕ, _<_};
 ghost use lib.ListN.{length, getD};
 ghost use lib.Ieee.{nan};
 ghost use Rattle.random.specs.Draw.{run, allowed};
-ghost use Rattle.tree.specs.Tree.{nodesOf, tipsOf};
 ghost use Rattle.tree.specs.Given.{treeOf, kinIn};
 ghost use Rattle.calls.specs.declared.Turned.the-variants as Turns;
 ghost use Rattle.calls.specs.Call.{called};
 ghost use Rattle.calls.specs.Draws.{least};
 ghost use Rattle.calls.specs.Given.{after, turnOf};
 ghost use Rattle.process.specs.Process.{processFinite};
-ghost use Rattle.ages.specs.Ages.{atFault, Undecided};
 ghost use Rattle.dating.specs.Initialize.{midpoint, oldest, stretch, initialHeight, overflowsAt, initialTo, startFits, initialized, initializeCall};
 ghost use Rattle.dating.specs.TipAge.{ageing, tipAge, tipAgeCall};
 ghost use Rattle.dating.specs.Given.{startWith, startIn, startCall, leftTo};
@@ -147,7 +145,7 @@ pub fn initialize(
     maxima: &[f64],
     process: FossilizedBirthDeath,
 ) -> Verdict
-    ensures { λ r. ⌜ Undecided (atFault process (now (minima .entry)) (now (maxima .entry))) (tipsOf (nodesOf (now (pairs .entry)))) (initializeCall (now (minima .entry)) (now (maxima .entry)) process (treeOf (now (pairs .entry)) (now (parents .entry)) (now (heights .entry)) root)) (initialized r (now (heights .exit))) ⌝ }
+    ensures { λ r. ⌜ initialized r (now (heights .exit)) ≡ initializeCall (now (minima .entry)) (now (maxima .entry)) process (treeOf (now (pairs .entry)) (now (parents .entry)) (now (heights .entry)) root) ⌝ }
 {
     let limits = is_start(pairs, heights, root, minima, maxima, process);
     match ages::check(
@@ -273,7 +271,7 @@ pub fn propose_age(
     random: Random,
     allowance: u32,
 ) -> Answered
-    ensures { λ r. ⌜ Undecided (atFault process (now (minima .entry)) (now (maxima .entry))) (tipsOf (nodesOf (now (pairs .entry)))) (tipAgeCall (now (minima .entry)) (now (maxima .entry)) process (treeOf (now (pairs .entry)) (now (parents .entry)) (now (heights .entry)) root) random allowance) (called (r .answer) (r .random) (now (pairs .entry)) (now (parents .entry)) (now (heights .exit))) ⌝ }
+    ensures { λ r. ⌜ called (r .answer) (r .random) (now (pairs .entry)) (now (parents .entry)) (now (heights .exit)) ≡ tipAgeCall (now (minima .entry)) (now (maxima .entry)) process (treeOf (now (pairs .entry)) (now (parents .entry)) (now (heights .entry)) root) random allowance ⌝ }
 {
     let limits = is_limited(process, allowance);
     match ages::check(
