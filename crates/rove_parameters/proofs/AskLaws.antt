@@ -1,18 +1,12 @@
 -- The ways through the exported functions that ask, past the test of the record: the clock and the priors (`clockLaws`), and those on a tree (`treeLaws`). r
 -- is the code returned, and after the words at the end. Assumes nothing.
-use mathlib.Core.Path.{_≡_, refl, sym, ap, _∙_}
-use mathlib.Core.Bool.{Bool, true, false}
+use mathlib.Core.Path.{_≡_}
 use mathlib.Core.List.{List}
 use Prim.Native.Nat.{ℕ}
 use lib.Ieee.{Float}
-use Rattle.answer.specs.declared.Refusal.the-variants.{Parameter}
 use Rattle.random.specs.declared.Random.{Random}
 use Rattle.tree.specs.declared.Verdict.{Verdict}
-use Rattle.tree.specs.declared.Verdict.the-variants as Verdicts
-use Rattle.tree.specs.Tree.{nodesOf, tipsOf}
 use Rattle.tree.specs.Given.{treeOf}
-use Rattle.tree.specs.Bounded.{some}
-use Rattle.tree.specs.BoundedLaws.{some-at, some-none}
 use Rattle.calls.specs.declared.Answered.{Answered}
 use Rattle.calls.specs.Call.{called}
 use Rattle.rates.specs.declared.Rate.{Rate}
@@ -24,17 +18,17 @@ use Rattle.process.specs.declared.ProcessPriors.{ProcessPriors}
 use Rattle.process.specs.Process.{priorsCall}
 use Rattle.speciation.specs.declared.Density.{Density}
 use Rattle.speciation.specs.Yule.{yuleCall}
-use Rattle.ages.specs.Ages.{atFault, Judged, in-order, some-tip, Undecided}
+use Rattle.ages.specs.Ages.{tableCall}
 use Rattle.dating.specs.Initialize.{initialized, initializeCall}
 use Rattle.dating.specs.TipAge.{tipAgeCall}
 use Rattle.clades.specs.declared.Monophyly.{Monophyly}
 use Rattle.clades.specs.declared.Age.{Age}
 use Rattle.clades.specs.Clades.{monophylyCall, ageCall}
 use Rattle.marks.specs.Marks.{marksOf}
-use Rattle.record.specs.Record.{isRecord, noRecord, realIn, generatorIn, rootIn, allowanceIn, nodeIn, written, answered, judged}
+use Rattle.record.specs.Record.{realIn, generatorIn, rootIn, allowanceIn, nodeIn, written, answered, judged}
 use Rattle.record_parameters.specs.Parameters.{processIn, priorsIn}
 use Rattle.record_parameters.specs.Answers.{rateLeft, storedLeft, sigmaLeft, densityLeft, monophylyLeft, ageLeft}
-use Rattle.rove_parameters.specs.Exports.{Lent, lent, lentOn, setLeft, treeIn, initializedLeft, initializeExported, agedLeft, tipAgeExported}
+use Rattle.rove_parameters.specs.Exports.{lent, setLeft, treeIn, initializedLeft, agedLeft}
 
 -- ---- the clock and the priors
 
@@ -80,44 +74,23 @@ module _ (words after : List ℕ) (r : ℕ) (pairs parents : List ℕ) (heights 
 
 -- ---- tip dating
 
--- whatever the table, there is what may be said of it
-some-verdict : (fault : ℕ → Bool) (tips : ℕ) → (v : Verdict) × Judged fault tips v
-some-verdict fault tips = go (some fault tips) refl
-  where
-    go : (b : Bool) → some fault tips ≡ b → (v : Verdict) × Judged fault tips v
-    go true e = let c = some-at fault tips e in (Verdicts.Refused (Parameter (c .0)), some-tip (c .0) (c .1) (c .2))
-    go false e = (Verdicts.Fine, in-order (some-none fault tips e))
+-- p is the process
+module _ (words after : List ℕ) (r : ℕ) (p : FossilizedBirthDeath) (ep : p ≡ processIn words) (minima maxima : List Float) where
+  pub table-done : (n : ℕ) → n ≡ nodeIn words → (v : Verdict) → v ≡ tableCall n minima maxima p → written r after ≡ judged v words
+      → written r after ≡ judged (tableCall (nodeIn words) minima maxima (processIn words)) words
+  table-done n en v e w = rw (← en, ← ep, ← e) w
 
-module _ (words : List ℕ) (b : Bool) (eb : b ≡ isRecord words) (pairs parents : List ℕ) (heights minima maxima : List Float) where
-  abbrev Says : (Verdict → Lent) → Lent → Type 0
-  Says call l = Undecided (atFault (processIn words) minima maxima) (tipsOf (nodesOf pairs)) call l
-
-  -- a call that was given no record does not ask for the table
-  short : b ≡ false → (call : Verdict → Lent) → Says (λ table. lentOn words heights (call table)) (lent (written noRecord words) heights)
-  short n call =
-      let v = some-verdict (atFault (processIn words) minima maxima) (tipsOf (nodesOf pairs)) in
-      record { verdict = v .0; judged = v .1; is = rw (← eb, n) }
-
-  module _ (n : b ≡ false) where
-    pub initialize-short : Says (initializeExported pairs parents heights minima maxima words) (lent (written noRecord words) heights)
-    initialize-short = short n (λ table. initializedLeft (initializeCall minima maxima (processIn words) (treeIn pairs parents heights words) table) words)
-
-    pub propose-age-short : Says (tipAgeExported pairs parents heights minima maxima words) (lent (written noRecord words) heights)
-    propose-age-short =
-        short n (λ table. agedLeft (tipAgeCall minima maxima (processIn words) (treeIn pairs parents heights words) (generatorIn words) (allowanceIn words) table) words)
-
-  module _ (y : b ≡ true) (after : List ℕ) (r : ℕ) (root : ℕ) (er : root ≡ rootIn words) (p : FossilizedBirthDeath) (ep : p ≡ processIn words) (new : List Float) where
-    pub initialize-done : (v : Verdict)
-        → Undecided (atFault p minima maxima) (tipsOf (nodesOf pairs)) (initializeCall minima maxima p (treeOf pairs parents heights root)) (initialized v new)
-        → written r after ≡ judged v words → Says (initializeExported pairs parents heights minima maxima words) (lent (written r after) new)
+  module _ (pairs parents : List ℕ) (heights : List Float) (root : ℕ) (er : root ≡ rootIn words) (new : List Float) where
+    pub initialize-done : (v : Verdict) → initialized v new ≡ initializeCall minima maxima p (treeOf pairs parents heights root) → written r after ≡ judged v words
+        → lent (written r after) new ≡ initializedLeft (initializeCall minima maxima (processIn words) (treeIn pairs parents heights words)) words
     unfolding initializedLeft
-    initialize-done v u w = rw (← ep) (record { verdict = u .verdict; judged = u .judged; is = rw (← eb, y, ← er, ← ep, ← u .is, w) })
+    initialize-done v e w = rw (← er, ← ep, ← e, w)
 
     pub propose-age-done : (g : Random) → g ≡ generatorIn words → (a : ℕ) → a ≡ allowanceIn words → (c : Answered)
-        → Undecided (atFault p minima maxima) (tipsOf (nodesOf pairs)) (tipAgeCall minima maxima p (treeOf pairs parents heights root) g a)
-        (called (c .answer) (c .random) pairs parents new)
-        → written r after ≡ answered (c .answer) (c .random) words → Says (tipAgeExported pairs parents heights minima maxima words) (lent (written r after) new)
+        → called (c .answer) (c .random) pairs parents new ≡ tipAgeCall minima maxima p (treeOf pairs parents heights root) g a
+        → written r after ≡ answered (c .answer) (c .random) words
+        → lent (written r after) new ≡ agedLeft (tipAgeCall minima maxima (processIn words) (treeIn pairs parents heights words) (generatorIn words) (allowanceIn words)) words
     unfolding agedLeft
-    propose-age-done g eg a ea c u w = rw (← ep) (record { verdict = u .verdict; judged = u .judged; is = rw (← eb, y, ← er, ← ep, ← eg, ← ea, ← u .is, w) })
+    propose-age-done g eg a ea c e w = rw (← er, ← ep, ← eg, ← ea, ← e, w)
 
-pub ruleset treeLaws = (yule-done, monophyly-done, age-done, initialize-short, propose-age-short, initialize-done, propose-age-done)
+pub ruleset treeLaws = (yule-done, monophyly-done, age-done, table-done, initialize-done, propose-age-done)

@@ -7,7 +7,6 @@ use Prim.Native.Nat.{ℕ}
 use lib.Ieee.{Float}
 use Rattle.answer.specs.declared.Refusal.the-variants.{Parameter}
 use Rattle.random.specs.declared.Random.{Random}
-use Rattle.tree.specs.declared.Verdict.{Verdict}
 use Rattle.tree.specs.Tree.{Tree}
 use Rattle.tree.specs.Given.{treeOf}
 use Rattle.calls.specs.Call.{Called}
@@ -21,6 +20,7 @@ use Rattle.rates.specs.Clock as Clock
 use Rattle.rates.specs.Clock.{RateSet, newCall, setSigmaCall, setRateCall}
 use Rattle.process.specs.Process.{priorsCall}
 use Rattle.speciation.specs.Yule.{yuleCall}
+use Rattle.ages.specs.Ages.{tableCall}
 use Rattle.dating.specs.Initialize.{Initialized, initializeCall}
 use Rattle.dating.specs.TipAge.{tipAgeCall}
 use Rattle.clades.specs.Clades.{monophylyCall, ageCall}
@@ -115,22 +115,26 @@ priorsExported words = onRecord words (judged (priorsCall (priorsIn words)) word
 abbrev pub yuleExported : List ℕ → List ℕ → List Float → List ℕ → Written
 yuleExported pairs parents heights words = onRecord words (densityLeft (yuleCall (treeIn pairs parents heights words) (realIn words 13)) words)
 
--- ---- tip dating, of a table that has been judged: which tip at fault is named is undecided
+-- ---- tip dating
+
+-- the table by itself, for the number of nodes in word 6
+abbrev pub tableExported : List Float → List Float → List ℕ → Written
+tableExported minima maxima words = onRecord words (judged (tableCall (nodeIn words) minima maxima (processIn words)) words)
 
 unfoldable pub initializedLeft : Initialized → List ℕ → Lent
 initializedLeft c words = lent (judged (c .answer) words) (c .heights)
 
-abbrev pub initializeExported : List ℕ → List ℕ → List Float → List Float → List Float → List ℕ → Verdict → Lent
-initializeExported pairs parents heights minima maxima words table =
-    lentOn words heights (initializedLeft (initializeCall minima maxima (processIn words) (treeIn pairs parents heights words) table) words)
+abbrev pub initializeExported : List ℕ → List ℕ → List Float → List Float → List Float → List ℕ → Lent
+initializeExported pairs parents heights minima maxima words =
+    lentOn words heights (initializedLeft (initializeCall minima maxima (processIn words) (treeIn pairs parents heights words)) words)
 
 unfoldable pub agedLeft : Called → List ℕ → Lent
 agedLeft c words = lent (answered (c .answer) (c .random) words) (c .heights)
 
-abbrev pub tipAgeExported : List ℕ → List ℕ → List Float → List Float → List Float → List ℕ → Verdict → Lent
-tipAgeExported pairs parents heights minima maxima words table =
+abbrev pub tipAgeExported : List ℕ → List ℕ → List Float → List Float → List Float → List ℕ → Lent
+tipAgeExported pairs parents heights minima maxima words =
     lentOn words heights
-    (agedLeft (tipAgeCall minima maxima (processIn words) (treeIn pairs parents heights words) (generatorIn words) (allowanceIn words) table) words)
+    (agedLeft (tipAgeCall minima maxima (processIn words) (treeIn pairs parents heights words) (generatorIn words) (allowanceIn words)) words)
 
 -- ---- clades
 

@@ -6,11 +6,8 @@ ghost use mathlib.Core.Path.{_≡_};
 ghost use Prim.Native.Nat.{_≤_};
 ghost use lib.ListN.{length};
 ghost use Rattle.record.specs.Record.{written};
-ghost use Rattle.record_parameters.specs.Parameters.{processIn};
-ghost use Rattle.tree.specs.Tree.{nodesOf, tipsOf};
-ghost use Rattle.ages.specs.Ages.{atFault, Undecided};
 ghost use Rattle.rove_parameters.specs.Exports.{scaleExported, clockRateExported, birthDifferenceExported, birthRateExported, relativeDeathExported, clockSigmaExported, lent, branchRateScaleExported, fieldLeft, fbdExported};
-ghost use Rattle.rove_parameters.specs.Exports.{clockExported, branchRateExported, setSigmaExported, setRateExported, priorsExported, yuleExported, initializeExported, tipAgeExported, monophylyExported, ageExported};
+ghost use Rattle.rove_parameters.specs.Exports.{clockExported, branchRateExported, setSigmaExported, setRateExported, priorsExported, yuleExported, tableExported, initializeExported, tipAgeExported, monophylyExported, ageExported};
 use answer::Refusal;
 use fields::Field;
 use record::NO_RECORD;
@@ -255,6 +252,20 @@ pub extern "C" fn rove_yule_log_density(
 
 // ---- tip dating, with the ages of the tips in two slices
 
+// The ages by themselves, for a tree of as many nodes as word 6 says.
+#[no_mangle]
+pub extern "C" fn rove_validate_ages(words: &mut [u64], minima: &[f64], maxima: &[f64]) -> u64
+    ensures { λ r. ⌜ written r (now (words .exit)) ≡ tableExported (now (minima .entry)) (now (maxima .entry)) (now (words .entry)) ⌝ }
+{
+    if record::is_record(words) {
+        let nodes = record::node(words);
+        let process = record_parameters::process(words);
+        let verdict = ages::validate(minima, maxima, process, nodes);
+        return record::put_verdict(words, verdict);
+    }
+    NO_RECORD
+}
+
 #[no_mangle]
 pub extern "C" fn rove_initialize(
     words: &mut [u64],
@@ -264,7 +275,7 @@ pub extern "C" fn rove_initialize(
     minima: &[f64],
     maxima: &[f64],
 ) -> u64
-    ensures { λ r. ⌜ Undecided (atFault (processIn (now (words .entry))) (now (minima .entry)) (now (maxima .entry))) (tipsOf (nodesOf (now (pairs .entry)))) (initializeExported (now (pairs .entry)) (now (parents .entry)) (now (heights .entry)) (now (minima .entry)) (now (maxima .entry)) (now (words .entry))) (lent (written r (now (words .exit))) (now (heights .exit))) ⌝ }
+    ensures { λ r. ⌜ lent (written r (now (words .exit))) (now (heights .exit)) ≡ initializeExported (now (pairs .entry)) (now (parents .entry)) (now (heights .entry)) (now (minima .entry)) (now (maxima .entry)) (now (words .entry)) ⌝ }
 {
     if record::is_record(words) {
         let root = record::root(words);
@@ -284,7 +295,7 @@ pub extern "C" fn rove_propose_age(
     minima: &[f64],
     maxima: &[f64],
 ) -> u64
-    ensures { λ r. ⌜ Undecided (atFault (processIn (now (words .entry))) (now (minima .entry)) (now (maxima .entry))) (tipsOf (nodesOf (now (pairs .entry)))) (tipAgeExported (now (pairs .entry)) (now (parents .entry)) (now (heights .entry)) (now (minima .entry)) (now (maxima .entry)) (now (words .entry))) (lent (written r (now (words .exit))) (now (heights .exit))) ⌝ }
+    ensures { λ r. ⌜ lent (written r (now (words .exit))) (now (heights .exit)) ≡ tipAgeExported (now (pairs .entry)) (now (parents .entry)) (now (heights .entry)) (now (minima .entry)) (now (maxima .entry)) (now (words .entry)) ⌝ }
 {
     if record::is_record(words) {
         let root = record::root(words);

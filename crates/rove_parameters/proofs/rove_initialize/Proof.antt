@@ -2,6 +2,7 @@
 use borrow.Author.Needs.{needs}
 use Rattle.record.specs.RoomLaws.{roomLaws}
 use Rattle.rove_parameters.proofs.AskLaws.{treeLaws}
+use Rattle.rove_parameters.proofs.RecordLaws.{recordLaws}
 use Rattle.rove_parameters.proofs.rove_initialize.Statement.{statement}
 use Rattle.rove_parameters.proofs.rove_initialize.Tie as tie
 
@@ -27,13 +28,13 @@ same-length-2 : tie.Need-same-length-2
 same-length-2 c = search needs
 
 returns : tie.Need-returns
-returns c = search (treeLaws, needs)
+returns c = search (recordLaws, treeLaws, needs)
 
 same-length-3 : tie.Need-same-length-3
 same-length-3 c = search needs
 
 returns-2 : tie.Need-returns-2
-returns-2 c = search (treeLaws, needs)
+returns-2 c = search (recordLaws, treeLaws, needs)
 
 pub rove-initialize-spec : {M : Type 1} → statement M
 rove-initialize-spec =
