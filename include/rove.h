@@ -40,7 +40,7 @@ enum {
     ROVE_GENERATOR = 0,  /* in and out: four words, the generator's state */
     ROVE_ROOT = 4,       /* in, and out where it changes: the root */
     ROVE_ALLOWANCE = 5,  /* in: how many draws the call may make, 1 to 65,535 */
-    ROVE_NODE = 6,       /* in: a node, an index, a field, a move, or an n; out: the node of rove_slide_start */
+    ROVE_NODE = 6,       /* in: a node, an index, a field, a move, an n, or a number of nodes; out: the node of rove_slide_start */
     ROVE_TUNING = 7,     /* in: the bits of a scale's tuning, from 1e-8 to 1, or of a slide's step */
     ROVE_ANSWER = 8,     /* out: the answer code */
     ROVE_DRAWS = 9,      /* out: the draws made; 0 when refused */
@@ -75,7 +75,7 @@ enum {
     ROVE_REFUSAL_SHAPE = 2,        /* the pairs make no tree: the node */
     ROVE_REFUSAL_DISCONNECTED = 3, /* they make more than one, or the given parents or root are not the pairs': 0 */
     ROVE_REFUSAL_HEIGHT = 4,       /* negative, not finite, or above the parent's: the lowest such node */
-    ROVE_REFUSAL_PARAMETER = 5,    /* a parameter, the allowance too, is outside its limits: a tip at fault of an age table, else 0 */
+    ROVE_REFUSAL_PARAMETER = 5,    /* a parameter, the allowance too, is outside its limits: the lowest tip at fault of an age table, else 0 */
     ROVE_REFUSAL_ALLOWANCE = 6,    /* more draws are needed than allowed: the allowance */
     ROVE_REFUSAL_NOT_FINITE = 7,   /* a new height is not finite: the lowest such node */
     ROVE_REFUSAL_OUTSIDE = 8,      /* a drawn height is outside its interval: the node */
@@ -308,9 +308,14 @@ uint64_t rove_validate_priors(uint64_t *words, size_t words_len);
 /* Whether the priors in words 18 to 28 estimate what the move in ROVE_NODE changes (ROVE_MOVE_...): 1 or 0 into ROVE_FIRST. */
 uint64_t rove_estimates(uint64_t *words, size_t words_len);
 
-/* Tip dating, the process in words 13 to 17; `minima` and `maxima` have one age for each tip. rove_initialize puts every tip at the middle of its ages
- * and scales the internal heights to what is left under the origin. rove_propose_age is TipAge: it moves one tip, and is given ROVE_GENERATOR and
- * ROVE_ALLOWANCE. */
+/* Tip dating, the process in words 13 to 17; `minima` and `maxima`, the age table, have one age for each tip. rove_validate_ages tells whether a table is in
+ * order for a tree of as many nodes as ROVE_NODE says. rove_initialize puts every tip at the middle of its ages and scales the internal heights to what is
+ * left under the origin. rove_propose_age is TipAge: it moves one tip, and is given ROVE_GENERATOR and ROVE_ALLOWANCE.
+ *
+ * A tip is at fault whose ends are not finite, negative or crossed, or reach the origin; whose interval is longer than 0 and begins at 0; or that is at 0 where
+ * present sampling is 0. After 1 to 4 the lowest tip at fault is refused with 5 and its number, ahead of any other 5 of the call, which has detail 0: a field
+ * of the process that is not finite; the allowance; of rove_initialize a root at 0, or an origin not above the oldest tip. */
+uint64_t rove_validate_ages(uint64_t *words, size_t words_len, const double *minima, size_t minima_len, const double *maxima, size_t maxima_len);
 uint64_t rove_initialize(uint64_t *words, size_t words_len, const uint16_t *pairs, size_t pairs_len, const uint16_t *parents, size_t parents_len,
                          double *heights, size_t heights_len, const double *minima, size_t minima_len, const double *maxima, size_t maxima_len);
 uint64_t rove_propose_age(uint64_t *words, size_t words_len, const uint16_t *pairs, size_t pairs_len, const uint16_t *parents, size_t parents_len,

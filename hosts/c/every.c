@@ -3,6 +3,7 @@
  *
  * A function is here three times: how it is called (CALL or CALL_ON), what comes of it (a function under that), and its row in the table at the end.
  * hosts/c/run sees that none is left out. */
+#include <math.h>
 #include <stdio.h>
 #include <stdlib.h>
 
@@ -100,6 +101,7 @@ CALL_ON(rove_set_rate, h->rates, RATES)
 CALL(rove_fbd_scale)
 CALL(rove_validate_priors)
 CALL(rove_estimates)
+CALL_ON(rove_validate_ages, AGES)
 CALL_ON(rove_initialize, TREE, AGES)
 CALL_ON(rove_propose_age, TREE, AGES)
 CALL_ON(rove_yule_log_density, TREE)
@@ -685,6 +687,28 @@ static void estimates(call make, struct host *h)
 
 /* ---- tip dating, densities and clades */
 
+/* With nothing sampled at the present a tip there is at fault, as one is whose ages are crossed: the lower of the two is named, whichever rule it is
+ * against, and ahead of an infinite field. */
+static void validate_ages(call make, struct host *h)
+{
+    put_process(h);
+    h->words[ROVE_NODE] = NODES;
+    h->minima[0] = 1.0;
+    h->maxima[0] = 3.0;
+    done(make, h, 0);
+    put_float(h, ROVE_FBD_BIRTH, INFINITY);
+    refused(make, h, ROVE_REFUSAL_PARAMETER, 0);
+    h->minima[2] = 1.0;
+    refused(make, h, ROVE_REFUSAL_PARAMETER, 2);
+    put_float(h, ROVE_FBD_PRESENT_SAMPLING, 0.0);
+    refused(make, h, ROVE_REFUSAL_PARAMETER, 1);
+    h->minima[1] = 1.0;
+    h->minima[2] = 0.0;
+    refused(make, h, ROVE_REFUSAL_PARAMETER, 1);
+    h->words[ROVE_NODE] = NODES + 2;
+    refused(make, h, ROVE_REFUSAL_SIZE, NODES + 2);
+}
+
 /* Tip 0 has an age from 1 to 3, of which the middle is 2. What is above it is 0.8 of the way to the origin, four times as long as the tree. */
 static void initialize(call make, struct host *h)
 {
@@ -697,7 +721,8 @@ static void initialize(call make, struct host *h)
     after.heights[4] = 10.0;
     done(make, h, 0);
     expect(same_tree(h, &after), "the tree");
-    h->minima[1] = -1.0;
+    h->minima[1] = h->minima[2] = -1.0;
+    memset(h->heights, 0, sizeof h->heights);
     refused(make, h, ROVE_REFUSAL_PARAMETER, 1);
 }
 
@@ -714,6 +739,9 @@ static void propose_age(call make, struct host *h)
     expect(same_tree(h, &after), "the tree");
     h->maxima[0] = 0.25;
     declined(make, h, 1);
+    h->maxima[1] = h->maxima[2] = 1.0;
+    h->words[ROVE_ALLOWANCE] = 65536;
+    refused(make, h, ROVE_REFUSAL_PARAMETER, 1);
 }
 
 static void yule_log_density(call make, struct host *h)
@@ -904,6 +932,7 @@ static const struct {
     ROW(rove_fbd_scale, fbd_scale),
     ROW(rove_validate_priors, validate_priors),
     ROW(rove_estimates, estimates),
+    ROW(rove_validate_ages, validate_ages),
     ROW(rove_initialize, initialize),
     ROW(rove_propose_age, propose_age),
     ROW(rove_yule_log_density, yule_log_density),

@@ -1,11 +1,12 @@
-/* Tree F of three tips, in memory: rove_new makes its parents, its Newick copy is written, and RootScale with a tuning of 0.5 moves its root from the state
- * 1, 2, 3, 4. What comes of it is printed and compared with the documents' examples. Exits with 1 where anything is wrong. */
+/* Tree F of three tips, in memory: rove_new makes its parents, its Newick copy is written, an age table for it is mended from the top, and RootScale with a
+ * tuning of 0.5 moves its root from the state 1, 2, 3, 4. What comes of it is printed and compared with the documents' examples. Exits with 1 where anything is wrong. */
 #include <inttypes.h>
 #include <stdio.h>
 
 #include "rove.h"
 
 #define NODES 5
+#define TIPS 3
 #define TIP ROVE_NO_NODE, ROVE_NO_NODE
 
 static int wrong = 0;
@@ -52,6 +53,23 @@ static void check_newick(uint64_t *words, const uint16_t *pairs, const uint16_t 
     printf("newick=%.*s\n", (int)words[ROVE_FIRST], (const char *)out);
 }
 
+/* Of an age table, tips 1 and 2 have crossed ends: the lower is named, then the other, and then the table is in order. */
+static void check_ages(void)
+{
+    double minima[TIPS] = {0.0, 2.0, 2.0};
+    const double maxima[TIPS] = {0.0, 1.0, 1.0};
+    uint64_t words[ROVE_WORDS] = {[ROVE_NODE] = NODES};
+    for (int k = ROVE_FBD_BIRTH; k < ROVE_FBD_ORIGIN; k++)
+        words[k] = rove_bits(0.5);
+    words[ROVE_FBD_ORIGIN] = rove_bits(10.0);
+    for (uint64_t tip = 1; tip < TIPS; tip++) {
+        expect(rove_validate_ages(words, ROVE_WORDS, minima, TIPS, maxima, TIPS) == ROVE_REFUSED, "a table with a tip at fault");
+        expect(words[ROVE_KIND] == ROVE_REFUSAL_PARAMETER && words[ROVE_FIRST] == tip, "the lowest tip at fault");
+        minima[tip] = 0.5;
+    }
+    expect(rove_validate_ages(words, ROVE_WORDS, minima, TIPS, maxima, TIPS) == ROVE_DONE, "a table in order");
+}
+
 int main(void)
 {
     const uint16_t pairs[2 * NODES] = {TIP, TIP, TIP, 0, 1, 3, 2};
@@ -61,6 +79,7 @@ int main(void)
 
     check_refusals();
     check_draws();
+    check_ages();
 
     expect(rove_new(words, ROVE_WORDS, pairs, 2 * NODES, heights, NODES, parents, NODES) == ROVE_DONE, "rove_new");
     expect(words[ROVE_ROOT] == 4 && parents[0] == 3 && parents[2] == 4 && parents[4] == ROVE_NO_NODE, "root and parents");

@@ -421,6 +421,15 @@ fn tables_unsampled() {
     );
 }
 
+fn tables_twice() {
+    // Two faulty tips, by different rules in either order: the lower is named.
+    let unsampled = process_with(2.0, 1.0, 0.0, 8.0);
+    aged(&[1.0, 2.0, 0.0], &[1.0, 1.0, 0.0], unsampled, 5);
+    aged(&[1.0, 0.0, 2.0], &[1.0, 0.0, 1.0], unsampled, 5);
+    // All three.
+    aged(&[0.0, 2.0, 0.0], &[0.0, 1.0, 0.0], unsampled, 5);
+}
+
 fn tables_sized() {
     aged(&[0.0, 0.0], &[0.0, 0.0, 0.0], process(), 5);
     aged(&[0.0, 0.0, 0.0], &[0.0, 0.0], process(), 5);
@@ -574,9 +583,10 @@ fn proposed_refused() {
 fn proposed_refused_more() {
     let low = [0.25, 0.5, 2.0];
     let high = [0.5, 1.0, 1.5];
-    // Tip 1 above its parent; the faulty tip 2; an allowance of 0: the first comes before the second, and that before the third.
+    // Tip 1 above its parent; the faulty tip 2; an allowance of 0, or of 65536: the first comes before the second, and that before the third.
     propose_by([0.0, 3.0, 0.0, 1.0, 2.0], &low, &high, process(), START, 0);
     propose_by(F_HEIGHTS, &low, &high, process(), START, 0);
+    propose_by(F_HEIGHTS, &low, &high, process(), START, 65536);
     // A process that is not finite.
     let infinite = process_with(infinity(), 1.0, 0.25, 8.0);
     propose_by(F_HEIGHTS, &low, &low, infinite, START, 9);
@@ -599,6 +609,7 @@ fn all_tables() {
     tables_fine();
     tables_faulty();
     tables_unsampled();
+    tables_twice();
     tables_sized();
 }
 

@@ -1,146 +1,115 @@
 //! The calls on a tree with parameters: `initialize` and TipAge with their age table, Yule, and sets of tips.
 
+use crate::ages::{Table, dating, lowest_fault, named};
 use crate::oracle::{Compared, allowed, drawn, unspent};
-use crate::parameters::{drawing, process_finite, value};
+use crate::parameters::{process_finite, value};
 use crate::plain::{bits, children, same_float, same_floats, shown};
 use crate::trees::{Called, answered, called, stepped};
 use crate::wrong::{judged, wrong_tree};
-use cases::Chance;
 use cases::age::thousandths;
+use cases::{Chance, Guarded};
 use rove::{Record, Refusal, Tree, exports, word};
-use scripted::dating::{Dating, FossilizedBirthDeath, TipAge};
+use scripted::dating::{Dating, TipAge};
 use scripted::random::Random;
 
-// ---- the age table
+// ---- with an age table
 
-/// A table for a tree, and a record with the process; both mostly in order.
-struct Table {
-    record: Record,
-    ages: Vec<TipAge>,
+/// A call on a tree with a table, on slices with guards.
+struct Dated {
+    tree: Tree,
+    table: Table,
+    call: Called,
+    /// The heights afterwards.
+    heights: Vec<f64>,
 }
 
-impl Table {
-    fn any(chance: &mut Chance, tree: &Tree) -> Self {
-        let mut record = drawing(chance);
-        record.set_index(word::ROOT, tree.root);
+type Export = fn(&[u16], &[u16], &mut [f64], &[f64], &[f64], &mut [u64]) -> u64;
+
+impl Dated {
+    fn any(chance: &mut Chance, export: Export) -> Compared<Self> {
+        let mut tree = wrong_tree(chance);
+        if chance.once_in(16) {
+            tree.heights.fill(0.0);
+        }
         let top = tree.heights.iter().copied().filter(|x| x.is_finite()).fold(0.0, f64::max);
-        let origin = if chance.once_in(8) { value(chance) } else { top * 1.5 + chance.unit() };
-        for (place, x) in [(13, 1.0), (14, 0.5), (15, 0.25), (16, 0.5), (17, origin)] {
-            record.set_float(place, if chance.once_in(32) { value(chance) } else { x });
+        let mut table = Table::any(chance, tree.nodes(), top);
+        table.record.set_index(word::ROOT, tree.root);
+        let [minima, maxima] = table.ends(chance);
+        let mut lent = Guarded::new(&tree.heights, |word| (word >> 12) as f64, chance);
+        let call = called(table.record.clone(), |words| {
+            export(&tree.pairs, &tree.parents, lent.items_mut(), minima.items(), maxima.items(), words)
+        });
+        if !(lent.guards_kept() && minima.guards_kept() && maxima.guards_kept()) {
+            return Err("something beside the slices was written".into());
         }
-        if chance.once_in(4) {
-            record.set_float(16, chance.pick(&[0.0, -0.0]));
+        Ok(Self { tree, table, call, heights: lent.items().to_vec() })
+    }
+
+    /// What the call has to look at first: the table's lengths, the tree, and the tips.
+    fn checked(&self) -> Result<scripted::tree::Tree, Refusal> {
+        let Self { tree, table, .. } = self;
+        if table.ages.len() != tree.nodes().div_ceil(2) {
+            return Err(Refusal::Size(tree.nodes() as u64));
         }
-        let tips = if chance.once_in(16) { chance.below(8) } else { tree.nodes().div_ceil(2) };
-        let present = chance.pick(&[1, 2, 4, 1000]);
-        let mut ages: Vec<TipAge> = (0..tips).map(|_| age(chance, top, present)).collect();
-        if tips > 0 && chance.once_in(4) {
-            ages[chance.below(tips)] = TipAge { minimum: value(chance), maximum: value(chance) };
+        judged(tree)?;
+        match lowest_fault(table.process(), &table.ages) {
+            Some(tip) => Err(Refusal::Parameter(tip as u64)),
+            None => {
+                Ok(scripted::tree::Tree::new(children(&tree.pairs), tree.heights.clone()).expect("a tree"))
+            }
         }
-        Self { record, ages }
     }
 
-    fn ends(&self) -> (Vec<f64>, Vec<f64>) {
-        self.ages.iter().map(|age| (age.minimum, age.maximum)).unzip()
+    fn dating(&self) -> Dating {
+        dating(self.table.process(), self.table.ages.clone())
     }
-}
 
-/// A tip's ages in order: fixed or an interval, at the present once in so many times.
-fn age(chance: &mut Chance, top: f64, present: usize) -> TipAge {
-    if chance.once_in(present) {
-        return TipAge { minimum: chance.pick(&[0.0, -0.0]), maximum: 0.0 };
+    /// That the call left these heights and was answered so; otherwise all that it was given.
+    fn left(&self, expected: &[f64], answer: Compared<&'static str>) -> Compared<&'static str> {
+        let told = |fault| {
+            let (tree, ages) = (shown(&self.tree), &self.table.ages);
+            format!("{tree}, ages {ages:x?}{fault}\nheights afterwards: {}", bits(&self.heights))
+        };
+        if !same_floats(&self.heights, expected) {
+            let code = self.call.code;
+            return Err(told(format!(", answer {code}, expected heights {}", bits(expected))));
+        }
+        answer.map_err(told)
     }
-    let minimum = top * chance.unit() + f64::MIN_POSITIVE;
-    let length = if chance.once_in(4) { 0.0 } else { top * 0.3 * chance.unit() };
-    TipAge { minimum, maximum: minimum + length }
-}
 
-fn process(record: &Record) -> FossilizedBirthDeath {
-    let [birth, death, fossil_sampling, present_sampling, origin] =
-        [13, 14, 15, 16, 17].map(|place| record.float(place));
-    FossilizedBirthDeath { birth, death, fossil_sampling, present_sampling, origin }
-}
-
-/// Whether a tip is against one of the rules of `Dating::validate` on tips.
-fn at_fault(process: &FossilizedBirthDeath, age: &TipAge) -> bool {
-    let TipAge { minimum, maximum } = *age;
-    !minimum.is_finite()
-        || !maximum.is_finite()
-        || minimum < 0.0
-        || maximum < minimum
-        || maximum >= process.origin
-        || (minimum == 0.0 && maximum > 0.0)
-        || (process.present_sampling == 0.0 && minimum == 0.0)
-}
-
-/// What a call with a table has to look at first: lengths, the tree, and the tips, of which any at fault may be named.
-fn checked(call: &Called, tree: &Tree, ages: &[TipAge]) -> Result<scripted::tree::Tree, Refusal> {
-    if ages.len() != tree.nodes().div_ceil(2) {
-        return Err(Refusal::Size(tree.nodes() as u64));
+    /// That it was refused, and left the heights as they came.
+    fn refused(&self, why: Refusal) -> Compared<&'static str> {
+        let word = self.left(&self.tree.heights, self.call.is_refused(why))?;
+        Ok(match why {
+            Refusal::Parameter(_) => named(self.table.process(), &self.table.ages),
+            _ => word,
+        })
     }
-    judged(tree)?;
-    let process = process(&call.before);
-    let named = call.after.0[word::FIRST];
-    let mut faults = (0..ages.len()).filter(|&tip| at_fault(&process, &ages[tip])).peekable();
-    if let Some(&lowest) = faults.peek() {
-        let named = faults.find(|&tip| tip as u64 == named).unwrap_or(lowest);
-        return Err(Refusal::Parameter(named as u64));
-    }
-    Ok(scripted::tree::Tree::new(children(&tree.pairs), tree.heights.clone()).expect("a tree"))
-}
-
-fn dating(process: FossilizedBirthDeath, ages: Vec<TipAge>) -> Dating {
-    Dating { process, process_priors: None, ages, clock_rate: 1.0, clock_prior_mean: None }
 }
 
 fn heights(tree: &scripted::tree::Tree) -> Vec<f64> {
     (0..tree.nodes()).map(|node| tree.height(node)).collect()
 }
 
-/// That a call left these heights and was answered so; otherwise all that it was given.
-fn left(
-    call: &Called,
-    tree: &Tree,
-    ages: &[TipAge],
-    lent: &[f64],
-    expected: &[f64],
-    answer: Compared<&'static str>,
-) -> Compared<&'static str> {
-    let told = |fault| format!("{}, ages {ages:x?}{fault}\nheights afterwards: {}", shown(tree), bits(lent));
-    if !same_floats(lent, expected) {
-        return Err(told(format!(", answer {}, expected heights {}", call.code, bits(expected))));
-    }
-    answer.map_err(told)
-}
-
 pub fn initialize(chance: &mut Chance) -> Compared<&'static str> {
-    let tree = wrong_tree(chance);
-    let Table { record, ages } = Table::any(chance, &tree);
-    let (minima, maxima) = Table { record: record.clone(), ages: ages.clone() }.ends();
-    let mut lent = tree.heights.clone();
-    let call = called(record, |words| {
-        exports::rove_initialize(&tree.pairs, &tree.parents, &mut lent, &minima, &maxima, words)
-    });
-    match initialized(&call, &tree, &ages) {
-        Err(why) => left(&call, &tree, &ages, &lent, &tree.heights, call.is_refused(why)),
-        Ok(expected) => {
-            let answer = call.is(0, &answered(0, 0, 0, 0, 0)).map(|()| "given");
-            left(&call, &tree, &ages, &lent, &expected, answer)
-        }
+    let dated = Dated::any(chance, exports::rove_initialize)?;
+    match initialized(&dated) {
+        Err(why) => dated.refused(why),
+        Ok(expected) => dated.left(&expected, dated.call.is(0, &answered(0, 0, 0, 0, 0)).map(|()| "given")),
     }
 }
 
 /// The Rust's heights, within the limits.
-fn initialized(call: &Called, tree: &Tree, ages: &[TipAge]) -> Result<Vec<f64>, Refusal> {
-    let mut rust = checked(call, tree, ages)?;
-    let process = process(&call.before);
+fn initialized(dated: &Dated) -> Result<Vec<f64>, Refusal> {
+    let mut rust = dated.checked()?;
+    let process = dated.table.process();
     let middle = |age: &TipAge| age.minimum + (age.maximum - age.minimum) / 2.0;
-    let oldest = ages.iter().map(middle).fold(0.0, f64::max);
+    let oldest = dated.table.ages.iter().map(middle).fold(0.0, f64::max);
     let above = rust.height(rust.root()) > 0.0 && process.origin > oldest;
     if !(process_finite(&process) && above) {
         return Err(Refusal::Parameter(0));
     }
-    scripted::initialize(&dating(process, ages.to_vec()), &mut rust);
+    scripted::initialize(&dated.dating(), &mut rust);
     let heights = heights(&rust);
     match heights.iter().position(|height| !height.is_finite()) {
         Some(node) => Err(Refusal::NotFinite(node as u64)),
@@ -156,35 +125,29 @@ struct Aged {
 }
 
 pub fn propose_age(chance: &mut Chance) -> Compared<&'static str> {
-    let tree = wrong_tree(chance);
-    let Table { record, ages } = Table::any(chance, &tree);
-    let (minima, maxima) = Table { record: record.clone(), ages: ages.clone() }.ends();
-    let mut lent = tree.heights.clone();
-    let call = called(record, |words| {
-        exports::rove_propose_age(&tree.pairs, &tree.parents, &mut lent, &minima, &maxima, words)
-    });
-    match aged(&call, &tree, &ages) {
-        Err(why) => left(&call, &tree, &ages, &lent, &tree.heights, call.is_refused(why)),
+    let dated = Dated::any(chance, exports::rove_propose_age)?;
+    match aged(&dated) {
+        Err(why) => dated.refused(why),
         Ok(Aged { draws, state, heights: None }) => {
             let words = [&stepped(state)[..], &answered(1, draws, 0, 0, 0)].concat();
-            left(&call, &tree, &ages, &lent, &tree.heights, call.is(1, &words).map(|()| "declined"))
+            dated.left(&dated.tree.heights, dated.call.is(1, &words).map(|()| "declined"))
         }
         Ok(Aged { draws, state, heights: Some(heights) }) => {
             let words = [&stepped(state)[..], &answered(0, draws, 0, 1, 1)].concat();
-            left(&call, &tree, &ages, &lent, &heights, call.is(0, &words).map(|()| "moved"))
+            dated.left(&heights, dated.call.is(0, &words).map(|()| "moved"))
         }
     }
 }
 
-fn aged(call: &Called, tree: &Tree, ages: &[TipAge]) -> Result<Aged, Refusal> {
-    let mut rust = checked(call, tree, ages)?;
-    let process = process(&call.before);
-    let (from, allowance) = (call.before.state(), call.before.0[word::ALLOWANCE]);
-    if !(process_finite(&process) && allowed(allowance)) {
+fn aged(dated: &Dated) -> Result<Aged, Refusal> {
+    let mut rust = dated.checked()?;
+    let before = &dated.call.before;
+    let (from, allowance) = (before.state(), before.0[word::ALLOWANCE]);
+    if !(process_finite(&dated.table.process()) && allowed(allowance)) {
         return Err(Refusal::Parameter(0));
     }
     let mut random = Random::of(from, allowance);
-    let ran = unspent(|| scripted::propose_age(&dating(process, ages.to_vec()), &mut rust, &mut random));
+    let ran = unspent(|| scripted::propose_age(&dated.dating(), &mut rust, &mut random));
     match (ran, drawn(&random, from, allowance)) {
         (Some(log), Some(draws)) => {
             let heights = log.map(|log| {

@@ -6,6 +6,7 @@
 //!
 //! `--seed S` gives other cases.
 
+mod ages;
 mod copies;
 mod dating;
 mod files;

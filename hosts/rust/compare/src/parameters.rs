@@ -1,5 +1,6 @@
 //! The calls on parameters: scales, the clock, the process and its priors.
 
+use crate::ages;
 use crate::dating;
 use crate::oracle::{Compared, allowed, drawn, tuned, unspent};
 use crate::plain::{bits, random, same_float, same_floats};
@@ -18,7 +19,7 @@ use scripted::tree::Tree;
 
 type Trial = fn(&mut Chance) -> Compared<&'static str>;
 
-const TRIALS: [(&str, Trial); 18] = [
+const TRIALS: [(&str, Trial); 19] = [
     ("scale", scale),
     ("clock_rate_scale", clock_rate_scale),
     ("birth_difference_scale", |chance| speciation_scale(chance, Move::BirthDifferenceScale)),
@@ -32,6 +33,7 @@ const TRIALS: [(&str, Trial); 18] = [
     ("set_sigma", set_sigma),
     ("set_rate", set_rate),
     ("validate_priors", validate_priors),
+    ("validate_ages", ages::validate_ages),
     ("initialize", dating::initialize),
     ("propose_age", dating::propose_age),
     ("yule_log_density", dating::yule_log_density),

@@ -42,7 +42,7 @@ const PARAMETERS: &[(&str, Call)] = calls! {
     rove_relative_death_scale() rove_clock_sigma_scale(floats) rove_branch_rate_scale(floats) rove_fbd_scale()
     rove_initialize(pairs, parents, heights, floats, floats) rove_propose_age(pairs, parents, heights, floats, floats)
     rove_yule_log_density(pairs, parents, heights) rove_clock(floats) rove_branch_rate(floats)
-    rove_set_sigma(floats) rove_set_rate(floats) rove_validate_priors()
+    rove_set_sigma(floats) rove_set_rate(floats) rove_validate_priors() rove_validate_ages(floats, floats)
     rove_is_monophyletic(pairs, parents, heights, marks) rove_clade_age(pairs, parents, heights, marks)
 };
 

@@ -1,7 +1,8 @@
 //! Document 01's example: RootScale on the tree 3=(0,1) at 1, 4=(3,2) at 2, once by a state file and once in memory; and
-//! the same factor by the functions that give single values, and the tree's Newick copy.
+//! the same factor by the functions that give single values, the tree's Newick copy, and an age table that is mended from
+//! the top.
 
-use rove::{Answer, Generator, Move, Ratio, Tree};
+use rove::{Ages, Answer, Generator, Move, Process, Ratio, Refusal, Tree};
 use std::fmt::Write;
 
 const FILE: &str = "edition=1
@@ -36,6 +37,22 @@ fn main() {
         "Its factor is {factor}; a chain starts with the tuning {tuning}, and the tree has a length of {length}."
     );
     println!("{}", String::from_utf8(example_tree().newick().expect("a copy")).expect("text"));
+    println!("An age table is mended at tips {:?}.", mended());
+}
+
+/// The tips of an age table that are named one after the other, each being put at the present.
+fn mended() -> Vec<u64> {
+    let process =
+        Process { birth: 1.0, death: 0.5, fossil_sampling: 0.5, present_sampling: 0.5, origin: 10.0 };
+    let mut ages = Ages { minima: vec![0.0, 2.0, 2.0], maxima: vec![0.0, 1.0, 1.0] };
+    let mut tips = Vec::new();
+    while let Err(why) = ages.validate(example_tree().nodes(), &process) {
+        let Refusal::Parameter(tip) = why else { panic!("the table has one age for each tip") };
+        (ages.minima[tip as usize], ages.maxima[tip as usize]) = (0.0, 0.0);
+        tips.push(tip);
+    }
+    assert_eq!(tips, [1, 2], "the lowest first");
+    tips
 }
 
 fn example_tree() -> Tree {

@@ -13,7 +13,7 @@ pub enum Refusal {
     Disconnected,
     /// 4, the lowest node whose height is negative, not finite or above its parent's.
     Height(u64),
-    /// 5: a parameter outside its limits; of an age table, some tip at fault.
+    /// 5: a parameter outside its limits; of an age table, the lowest tip at fault, else 0.
     Parameter(u64),
     /// 6, the allowance: more draws would be made.
     Allowance(u64),

@@ -81,6 +81,7 @@ exports! {
     rove_clock_sigma_scale(rates: read f64);
     rove_branch_rate_scale(rates: lend f64);
     rove_fbd_scale();
+    rove_validate_ages(minima: read f64, maxima: read f64);
     rove_initialize(pairs: read u16, parents: read u16, heights: lend f64, minima: read f64, maxima: read f64);
     rove_propose_age(pairs: read u16, parents: read u16, heights: lend f64, minima: read f64, maxima: read f64);
     rove_yule_log_density(pairs: read u16, parents: read u16, heights: read f64);

@@ -114,6 +114,17 @@ impl Process {
     }
 }
 
+impl Ages {
+    /// Whether these are the ages of a tree of so many nodes, under the process; else the lowest tip at fault is named.
+    pub fn validate(&self, nodes: usize, process: &Process) -> Result<(), Refusal> {
+        let mut record = Record::empty();
+        record.set_index(word::NODE, nodes);
+        process.put(&mut record);
+        let code = exports::rove_validate_ages(&self.minima, &self.maxima, &mut record.0);
+        record.verdict(code)
+    }
+}
+
 impl Priors {
     fn put(&self, record: &mut Record) {
         put_optional(record, PRIORS, self.birth_rate_mean);

@@ -267,6 +267,25 @@ fn dating() {
     assert_eq!(tree.initialize(&wrong, &process), Err(Refusal::Parameter(1)));
     let short = Ages { minima: vec![], maxima: vec![] };
     assert_eq!(tree.initialize(&short, &process), Err(Refusal::Size(5)));
+    assert_eq!([ages.validate(5, &process), ages.validate(7, &process)], [Ok(()), Err(Refusal::Size(7))]);
+}
+
+#[test]
+fn lowest_tip_at_fault() {
+    let process =
+        Process { birth: 1.0, death: 0.5, fossil_sampling: 0.5, present_sampling: 0.0, origin: 10.0 };
+    let crossed_then_present = Ages { minima: vec![1.0, 2.0, 0.0], maxima: vec![1.0, 1.0, 0.0] };
+    let present_then_crossed = Ages { minima: vec![1.0, 0.0, 2.0], maxima: vec![1.0, 0.0, 1.0] };
+    for ages in [crossed_then_present, present_then_crossed] {
+        assert_eq!(ages.validate(5, &process), Err(Refusal::Parameter(1)));
+        let endless = Process { birth: f64::INFINITY, ..process };
+        assert_eq!(ages.validate(5, &endless), Err(Refusal::Parameter(1)));
+        let answer = tree_f().propose_age(&ages, &process, &mut Generator::from_state([1, 2, 3, 4]), 0);
+        assert_eq!(answer, Answer::Refused(Refusal::Parameter(1)));
+        let mut flat = tree_f();
+        flat.heights.fill(0.0);
+        assert_eq!(flat.initialize(&ages, &process), Err(Refusal::Parameter(1)));
+    }
 }
 
 #[test]
