@@ -25,6 +25,7 @@ pub fn table() {
     show("`branch_rate_scale`", "4,094 rates", 200, branch_rate(4094, 200));
     for (tips, times) in [(16, 2000), (101, 500), (2048, 50)] {
         let nodes = format!("{} nodes", 2 * tips - 1);
+        show("`validate` of ages", &nodes, times, validate_ages(tips, times));
         show("`propose_age`", &nodes, times, propose_age(tips, times));
         show("`initialize`", &nodes, times, initialize(tips, times));
         show("`yule_log_density`", &nodes, times, yule(tips, times));
@@ -156,6 +157,21 @@ fn port_dated(tips: usize) -> Ours {
 
 fn check((tree, dating, _): &Given) {
     black_box(tree.validate().is_ok() && dating.validate(tree.tips()).is_ok());
+}
+
+/// The Rust's test of the table looks at the process's rules and the clock's rate too.
+fn validate_ages(tips: usize, times: usize) -> Vec<Way<'static>> {
+    let rust = |(tree, dating, _): &mut Given| {
+        black_box(dating.validate(tree.tips())).expect("in order");
+    };
+    let port = |(tree, ages, process, _): &mut Ours| {
+        black_box(ages.validate(tree.nodes(), process)).expect("in order");
+    };
+    vec![
+        way(times, move || rust_dated(tips), rust),
+        way(times, move || rust_dated(tips), rust),
+        way(times, move || port_dated(tips), port),
+    ]
 }
 
 fn propose_age(tips: usize, times: usize) -> Vec<Way<'static>> {
