@@ -1,19 +1,22 @@
--- Which tip the refusal of an age table names. In order: the lowest at fault (`table-lowest`), whatever else of a call is outside its limits (`fault-first`,
--- `table-fault`, `checked-fault`); and that a refusal 5 names such a tip, or has detail 0 where no tip is at fault (`five-names`). Assumes nothing.
+-- Which tip the refusal of an age table names. In order: the lowest at fault (`table-lowest`), whatever else of a call is outside its limits (`table-fault`,
+-- `checked-fault`); and that a refusal 5 names such a tip, or has detail 0 where no tip is at fault (`table-five`, `checked-five`). Assumes nothing.
 use mathlib.Core.Path.{_≡_, refl}
-use mathlib.Core.Bool.{Bool, true, false}
+use mathlib.Core.Bool.{Bool, true, false, _&&_, cond}
 use mathlib.Core.List.{List}
-use Prim.Native.Nat.{ℕ, _<_}
+use Prim.Native.Nat.{ℕ, _≤_, _<_}
 use native.Mathlib.Omega.{arith}
+use lib.Dec.{eqb}
 use lib.ListN.{length}
 use lib.Ieee.{Float}
 use borrow.Author.Tests.{eq-eqb}
-use Rattle.answer.specs.declared.Refusal.the-variants.{Parameter}
+use Rattle.answer.specs.declared.Refusal.the-variants.{Size, Parameter}
+use Rattle.answer.specs.Answers.{numberOf}
 use Rattle.tree.specs.declared.Verdict.{Verdict}
 use Rattle.tree.specs.declared.Verdict.the-variants as Verdicts
 use Rattle.tree.specs.Tree.{Tree, nodesOf, tipsOf}
 use Rattle.tree.specs.New.{counts, validated}
 use Rattle.tree.specs.LowestLaws.{Lowest, none, first, lowest-says, lowest-is}
+use Rattle.accepted.specs.RefusalLaws.{AtMost, validated-few}
 use Rattle.calls.specs.Call.{andThen}
 use Rattle.process.specs.declared.FossilizedBirthDeath.{FossilizedBirthDeath}
 use Rattle.process.specs.Process.{processFinite}
@@ -32,7 +35,7 @@ module _ (p : FossilizedBirthDeath) (minima maxima : List Float) where
 
   -- ---- "ahead of any other 5 of the call"
 
-  pub fault-first : (tips k : ℕ) → LowestAt tips k → (limits : Bool) → tableThen p minima maxima tips limits ≡ Verdicts.Refused (Parameter k)
+  fault-first : (tips k : ℕ) → LowestAt tips k → (limits : Bool) → tableThen p minima maxima tips limits ≡ Verdicts.Refused (Parameter k)
   fault-first tips k f limits = rw (lowest-is (atFault p minima maxima) Parameter tips k (f .tip) (f .fault) (f .below))
 
   -- of a table by itself, for a number of nodes that a tree may have and with an age for each tip, whatever the fields of the process
@@ -55,7 +58,7 @@ module _ (p : FossilizedBirthDeath) (minima maxima : List Float) where
     of-tip : (k : ℕ) → LowestAt tips k → Five tips limits k
     of-limits : ((j : ℕ) → j < tips → atFault p minima maxima j ≡ false) → limits ≡ false → Five tips limits 0
 
-  pub five-names : (tips : ℕ) (limits : Bool) (k : ℕ) → tableThen p minima maxima tips limits ≡ Verdicts.Refused (Parameter k) → Five tips limits k
+  five-names : (tips : ℕ) (limits : Bool) (k : ℕ) → tableThen p minima maxima tips limits ≡ Verdicts.Refused (Parameter k) → Five tips limits k
   five-names tips limits k = said (lowestFault p minima maxima tips) (table-lowest tips) limits refl
     where
       said : (v : Verdict) → Lowest (atFault p minima maxima) Parameter tips v → (b : Bool) → limits ≡ b → andThen v (orParameter b) ≡ Verdicts.Refused (Parameter k)
@@ -63,3 +66,26 @@ module _ (p : FossilizedBirthDeath) (minima maxima : List Float) where
       said _ (first j J h below) b f e = let z : j ≡ k = cc in rw (← z) (of-tip j (record { tip = J; fault = h; below = below }))
       said _ (none fails) false f e = let z : 0 ≡ k = cc in rw (← z) (of-limits fails f)
       said _ (none fails) true f e = let z : _≡_ {A = ℕ} 0 1 = cc in absurd (omega arith)
+
+  abbrev sized : ℕ → Bool
+  sized n = eqb (length minima) (tipsOf n) && eqb (length maxima) (tipsOf n)
+
+  -- a wrong size is no 5
+  past-size : (b : Bool) (n : ℕ) (v : Verdict) (k : ℕ) → andThen (cond b Verdicts.Fine (Verdicts.Refused (Size n))) v ≡ Verdicts.Refused (Parameter k) → v ≡ Verdicts.Refused (Parameter k)
+  past-size true n v k e = e
+  past-size false n v k e = let z : _≡_ {A = ℕ} 0 1 = cc in absurd (omega arith)
+
+  -- and neither is what is wrong with a tree
+  past-tree : (w : Verdict) → AtMost 4 w → (v : Verdict) (k : ℕ) → andThen w v ≡ Verdicts.Refused (Parameter k) → v ≡ Verdicts.Refused (Parameter k)
+  past-tree Verdicts.Fine few v k e = e
+  past-tree (Verdicts.Refused why) few v k e = let z : why ≡ Parameter k = cc in let f : numberOf (Parameter k) ≤ 4 = rw z at few in absurd (omega arith)
+
+  -- of a table by itself
+  pub table-five : (n k : ℕ) → tableCall n minima maxima p ≡ Verdicts.Refused (Parameter k) → Five (tipsOf n) (processFinite p) k
+  unfolding tableCall
+  table-five n k e = five-names (tipsOf n) (processFinite p) k (past-size (sized n) n _ k (past-size (counts n) n _ k e))
+
+  -- of the checks of a call on any tree
+  pub checked-five : (t : Tree) (limits : Bool) (k : ℕ) → tableChecked p minima maxima t limits ≡ Verdicts.Refused (Parameter k)
+      → Five (tipsOf (nodesOf (t .pairs))) limits k
+  checked-five t limits k e = five-names _ limits k (past-tree (validated t) (validated-few t) _ k (past-size (sized (nodesOf (t .pairs))) (nodesOf (t .pairs)) _ k e))
