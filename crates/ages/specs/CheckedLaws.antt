@@ -2,21 +2,20 @@
 use mathlib.Core.Path.{_≡_, refl}
 use mathlib.Core.Bool.{Bool}
 use mathlib.Core.List.{List}
-use Prim.Native.Nat.{ℕ}
-use native.Mathlib.Omega.{arith}
 use lib.Ieee.{Float}
 use Rattle.tree.specs.declared.Verdict.{Verdict}
 use Rattle.tree.specs.declared.Verdict.the-variants as Verdicts
 use Rattle.tree.specs.Tree.{Tree, nodesOf, tipsOf}
 use Rattle.tree.specs.New.{validated}
 use Rattle.calls.specs.Call.{andThen}
+use Rattle.calls.specs.RunLaws.{clash}
 use Rattle.process.specs.declared.FossilizedBirthDeath.{FossilizedBirthDeath}
 use Rattle.ages.specs.Ages.{tableSized, lowestFault, orParameter, tableChecked}
 
 -- where two checks are fine, each is
 pub both-fine : (a b : Verdict) → andThen a b ≡ Verdicts.Fine → (a ≡ Verdicts.Fine) × (b ≡ Verdicts.Fine)
 both-fine Verdicts.Fine b e = (refl, e)
-both-fine (Verdicts.Refused why) b e = let z : _≡_ {A = ℕ} 0 1 = cc in absurd (omega arith)
+both-fine (Verdicts.Refused why) b e = clash cc
 
 -- each of the four is fine
 pub record Passed (p : FossilizedBirthDeath) (minima maxima : List Float) (t : Tree) (limits : Bool) : Type 0 where

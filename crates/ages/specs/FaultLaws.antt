@@ -18,6 +18,7 @@ use Rattle.tree.specs.New.{counts, validated}
 use Rattle.tree.specs.LowestLaws.{Lowest, none, first, lowest-says, lowest-is}
 use Rattle.accepted.specs.RefusalLaws.{AtMost, validated-few}
 use Rattle.calls.specs.Call.{andThen}
+use Rattle.calls.specs.RunLaws.{clash}
 use Rattle.process.specs.declared.FossilizedBirthDeath.{FossilizedBirthDeath}
 use Rattle.process.specs.Process.{processFinite}
 use Rattle.ages.specs.Ages.{atFault, lowestFault, orParameter, tableThen, tableChecked, tableCall}
@@ -65,15 +66,16 @@ module _ (p : FossilizedBirthDeath) (minima maxima : List Float) where
           → Five tips limits k
       said _ (first j J h below) b f e = let z : j ≡ k = cc in rw (← z) (of-tip j (record { tip = J; fault = h; below = below }))
       said _ (none fails) false f e = let z : 0 ≡ k = cc in rw (← z) (of-limits fails f)
-      said _ (none fails) true f e = let z : _≡_ {A = ℕ} 0 1 = cc in absurd (omega arith)
+      said _ (none fails) true f e = clash cc
 
+  -- the lengths are those of n nodes
   abbrev sized : ℕ → Bool
   sized n = eqb (length minima) (tipsOf n) && eqb (length maxima) (tipsOf n)
 
   -- a wrong size is no 5
   past-size : (b : Bool) (n : ℕ) (v : Verdict) (k : ℕ) → andThen (cond b Verdicts.Fine (Verdicts.Refused (Size n))) v ≡ Verdicts.Refused (Parameter k) → v ≡ Verdicts.Refused (Parameter k)
   past-size true n v k e = e
-  past-size false n v k e = let z : _≡_ {A = ℕ} 0 1 = cc in absurd (omega arith)
+  past-size false n v k e = clash cc
 
   -- and neither is what is wrong with a tree
   past-tree : (w : Verdict) → AtMost 4 w → (v : Verdict) (k : ℕ) → andThen w v ≡ Verdicts.Refused (Parameter k) → v ≡ Verdicts.Refused (Parameter k)
