@@ -44,7 +44,7 @@ atFault p minima maxima k = misaged (p .origin) (ageOf minima maxima k) || unsam
 
 -- ---- which tip is named
 
--- "names the lowest-numbered tip at fault": so many tips are in order, or the lowest that is not is refused
+-- "names the lowest-numbered tip at fault": of so many tips the lowest that is at fault is refused
 abbrev pub lowestFault : FossilizedBirthDeath → List Float → List Float → ℕ → Verdict
 lowestFault p minima maxima tips = lowest (atFault p minima maxima) Parameter tips
 

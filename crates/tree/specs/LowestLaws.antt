@@ -1,6 +1,6 @@
--- The lowest number that a test refuses. In order: what is said of the first m numbers (`lowest-says`), and so that none is refused exactly where the test
--- fails at each (`lowest-fine`, `fine-lowest`) and that the lowest at which it holds is the one that is refused (`lowest-is`); the numbers looked at one by
--- one, for loops (`lowestLaws`). Assumes nothing.
+-- The lowest number at which a test holds, refused. In order: what is said of the first m numbers (`lowest-says`), and so that none is refused exactly where the
+-- test fails at each (`lowest-fine`, `fine-lowest`); the numbers looked at one by one, for loops (`lowestLaws`); and that the lowest at which the test holds is
+-- the one that is refused (`lowest-is`). Assumes nothing.
 use mathlib.Core.Path.{_≡_, refl, sym, ap, _∙_}
 use mathlib.Core.Bool.{Bool, true, false}
 use Prim.Native.Nat.{ℕ, zero, suc, _+_, _-_, _≤_, _<_}
