@@ -1,5 +1,6 @@
 /* Tree F of three tips, in memory: rove_new makes its parents, its Newick copy is written, an age table for it is mended from the top, and RootScale with a
- * tuning of 0.5 moves its root from the state 1, 2, 3, 4. What comes of it is printed and compared with the documents' examples. Exits with 1 where anything is wrong. */
+ * tuning of 0.5 moves its root from the state 1, 2, 3, 4. What comes of it is printed and compared with the documents' examples. Exits with 1 where
+ * anything is wrong. */
 #include <inttypes.h>
 #include <stdio.h>
 

@@ -23,6 +23,20 @@ use Rattle.process.specs.declared.FossilizedBirthDeath.{FossilizedBirthDeath}
 use Rattle.process.specs.Process.{processFinite}
 use Rattle.ages.specs.Ages.{atFault, lowestFault, orParameter, tableThen, tableChecked, tableCall}
 
+-- ---- what is no 5
+
+-- a wrong size
+past-size : (b : Bool) (n : ℕ) (v : Verdict) (k : ℕ) → andThen (cond b Verdicts.Fine (Verdicts.Refused (Size n))) v ≡ Verdicts.Refused (Parameter k) → v ≡ Verdicts.Refused (Parameter k)
+past-size true n v k e = e
+past-size false n v k e = clash cc
+
+-- what is wrong with a tree
+past-tree : (w : Verdict) → AtMost 4 w → (v : Verdict) (k : ℕ) → andThen w v ≡ Verdicts.Refused (Parameter k) → v ≡ Verdicts.Refused (Parameter k)
+past-tree Verdicts.Fine few v k e = e
+past-tree (Verdicts.Refused why) few v k e = let z : why ≡ Parameter k = cc in let f : numberOf (Parameter k) ≤ 4 = rw z at few in absurd (omega arith)
+
+-- ---- the tips
+
 module _ (p : FossilizedBirthDeath) (minima maxima : List Float) where
   -- of so many tips none is at fault, or the refusal names one that is, while none below it is
   pub table-lowest : (tips : ℕ) → Lowest (atFault p minima maxima) Parameter tips (lowestFault p minima maxima tips)
@@ -39,7 +53,7 @@ module _ (p : FossilizedBirthDeath) (minima maxima : List Float) where
   fault-first : (tips k : ℕ) → LowestAt tips k → (limits : Bool) → tableThen p minima maxima tips limits ≡ Verdicts.Refused (Parameter k)
   fault-first tips k f limits = rw (lowest-is (atFault p minima maxima) Parameter tips k (f .tip) (f .fault) (f .below))
 
-  -- of a table by itself, for a number of nodes that a tree may have and with an age for each tip, whatever the fields of the process
+  -- of a table by itself, for a number of nodes that a tree may have and with an age for each tip, whatever the other fields of the process
   pub table-fault : (n k : ℕ) → counts n ≡ true → length minima ≡ tipsOf n → length maxima ≡ tipsOf n → LowestAt (tipsOf n) k
       → tableCall n minima maxima p ≡ Verdicts.Refused (Parameter k)
   unfolding tableCall
@@ -71,16 +85,6 @@ module _ (p : FossilizedBirthDeath) (minima maxima : List Float) where
   -- the lengths are those of n nodes
   abbrev sized : ℕ → Bool
   sized n = eqb (length minima) (tipsOf n) && eqb (length maxima) (tipsOf n)
-
-  -- a wrong size is no 5
-  past-size : (b : Bool) (n : ℕ) (v : Verdict) (k : ℕ) → andThen (cond b Verdicts.Fine (Verdicts.Refused (Size n))) v ≡ Verdicts.Refused (Parameter k) → v ≡ Verdicts.Refused (Parameter k)
-  past-size true n v k e = e
-  past-size false n v k e = clash cc
-
-  -- and neither is what is wrong with a tree
-  past-tree : (w : Verdict) → AtMost 4 w → (v : Verdict) (k : ℕ) → andThen w v ≡ Verdicts.Refused (Parameter k) → v ≡ Verdicts.Refused (Parameter k)
-  past-tree Verdicts.Fine few v k e = e
-  past-tree (Verdicts.Refused why) few v k e = let z : why ≡ Parameter k = cc in let f : numberOf (Parameter k) ≤ 4 = rw z at few in absurd (omega arith)
 
   -- of a table by itself
   pub table-five : (n k : ℕ) → tableCall n minima maxima p ≡ Verdicts.Refused (Parameter k) → Five (tipsOf n) (processFinite p) k

@@ -2,7 +2,7 @@
 
 use crate::oracle::Compared;
 use crate::parameters::{drawing, process_finite, value};
-use crate::trees::{answered, called};
+use crate::trees::{Called, answered, called};
 use cases::{Chance, Guarded, shapes};
 use rove::{Record, Refusal, exports, word};
 use scripted::dating::{Dating, FossilizedBirthDeath, TipAge};
@@ -13,6 +13,8 @@ use scripted::dating::{Dating, FossilizedBirthDeath, TipAge};
 pub struct Table {
     pub record: Record,
     pub ages: Vec<TipAge>,
+    /// How many of the last ages the least and the greatest are without.
+    cut: [usize; 2],
 }
 
 impl Table {
@@ -29,11 +31,19 @@ impl Table {
         let tips = if chance.once_in(16) { chance.below(8) } else { nodes.div_ceil(2) };
         let present = chance.pick(&[1, 2, 4, 1000]);
         let ages = (0..tips).map(|_| age(chance, top, present)).collect();
-        let mut table = Self { record, ages };
+        let mut table = Self { record, ages, cut: [0; 2] };
         if tips > 0 && chance.once_in(3) {
             table.damage(chance, top);
         }
+        if tips > 0 && chance.once_in(32) {
+            table.cut = chance.pick(&[[1, 0], [0, 1]]);
+        }
         table
+    }
+
+    /// Whether both slices have one age for each tip of so many nodes.
+    pub fn is_sized(&self, nodes: usize) -> bool {
+        self.cut == [0; 2] && self.ages.len() == nodes.div_ceil(2)
     }
 
     /// One to four tips at fault by different rules, at times with another parameter outside its limits.
@@ -51,15 +61,30 @@ impl Table {
     }
 
     pub fn process(&self) -> FossilizedBirthDeath {
-        process(&self.record)
+        let [birth, death, fossil_sampling, present_sampling, origin] =
+            [13, 14, 15, 16, 17].map(|place| self.record.float(place));
+        FossilizedBirthDeath { birth, death, fossil_sampling, present_sampling, origin }
     }
 
     /// The least ages and the greatest, with guards that are no ages.
     pub fn ends(&self, chance: &mut Chance) -> [Guarded<f64>; 2] {
         let noise = |word| -((word >> 12) as f64);
-        let minima: Vec<f64> = self.ages.iter().map(|age| age.minimum).collect();
-        let maxima: Vec<f64> = self.ages.iter().map(|age| age.maximum).collect();
+        let [least, greatest] = self.cut.map(|cut| &self.ages[..self.ages.len() - cut]);
+        let minima: Vec<f64> = least.iter().map(|age| age.minimum).collect();
+        let maxima: Vec<f64> = greatest.iter().map(|age| age.maximum).collect();
         [Guarded::new(&minima, noise, chance), Guarded::new(&maxima, noise, chance)]
+    }
+
+    /// That a call with the table was refused; a 5 is counted by how many tips are at fault.
+    pub fn refused(&self, call: &Called, why: Refusal) -> Compared<&'static str> {
+        let word = call.is_refused(why)?;
+        let process = self.process();
+        Ok(match (why, self.ages.iter().filter(|age| at_fault(&process, age)).count()) {
+            (Refusal::Parameter(_), 1) => "5 for a tip",
+            (Refusal::Parameter(_), 2..=4) => "5 for the lowest of two to four tips",
+            (Refusal::Parameter(_), 5..) => "5 for the lowest of more tips",
+            _ => word,
+        })
     }
 }
 
@@ -87,12 +112,6 @@ fn wrong_age(chance: &mut Chance, top: f64, origin: f64) -> TipAge {
         _ => (value(chance), value(chance)),
     };
     TipAge { minimum, maximum }
-}
-
-pub fn process(record: &Record) -> FossilizedBirthDeath {
-    let [birth, death, fossil_sampling, present_sampling, origin] =
-        [13, 14, 15, 16, 17].map(|place| record.float(place));
-    FossilizedBirthDeath { birth, death, fossil_sampling, present_sampling, origin }
 }
 
 pub fn dating(process: FossilizedBirthDeath, ages: Vec<TipAge>) -> Dating {
@@ -125,16 +144,6 @@ pub fn lowest_fault(process: FossilizedBirthDeath, ages: &[TipAge]) -> Option<us
     (lowest < ages.len()).then_some(lowest)
 }
 
-/// The word for a 5 with a table.
-pub fn named(process: FossilizedBirthDeath, ages: &[TipAge]) -> &'static str {
-    match ages.iter().filter(|age| at_fault(&process, age)).count() {
-        0 => "5",
-        1 => "5 for a tip",
-        2..=4 => "5 for the lowest of two to four tips",
-        _ => "5 for the lowest of more tips",
-    }
-}
-
 // ---- the table by itself
 
 pub fn validate_ages(chance: &mut Chance) -> Compared<&'static str> {
@@ -152,22 +161,19 @@ pub fn validate_ages(chance: &mut Chance) -> Compared<&'static str> {
         exports::rove_validate_ages(minima.items(), maxima.items(), words)
     });
     let answer = match judged(asked, &table) {
-        Err(Refusal::Parameter(tip)) => {
-            call.is_refused(Refusal::Parameter(tip)).map(|_| named(table.process(), &table.ages))
-        }
-        Err(why) => call.is_refused(why),
+        Err(why) => table.refused(&call, why),
         Ok(()) => call.is(0, &answered(0, 0, 0, 0, 0)).map(|()| "given"),
     };
     if !(minima.guards_kept() && maxima.guards_kept()) {
         return Err("something beside the table was written".into());
     }
-    answer.map_err(|fault| format!("ages {:x?}{fault}", table.ages))
+    answer.map_err(|fault| format!("ages {:x?} less {:?}{fault}", table.ages, table.cut))
 }
 
 /// The number of nodes, the lengths, the tips, and the fields of the process.
 fn judged(nodes: u64, table: &Table) -> Result<(), Refusal> {
     let sized = (3..=4095).contains(&nodes) && nodes % 2 == 1;
-    if !sized || table.ages.len() as u64 != nodes.div_ceil(2) {
+    if !sized || !table.is_sized(nodes as usize) {
         return Err(Refusal::Size(nodes));
     }
     let process = table.process();

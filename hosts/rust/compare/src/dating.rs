@@ -1,6 +1,6 @@
 //! The calls on a tree with parameters: `initialize` and TipAge with their age table, Yule, and sets of tips.
 
-use crate::ages::{Table, dating, lowest_fault, named};
+use crate::ages::{Table, dating, lowest_fault};
 use crate::oracle::{Compared, allowed, drawn, unspent};
 use crate::parameters::{process_finite, value};
 use crate::plain::{bits, children, same_float, same_floats, shown};
@@ -48,7 +48,7 @@ impl Dated {
     /// What the call has to look at first: the table's lengths, the tree, and the tips.
     fn checked(&self) -> Result<scripted::tree::Tree, Refusal> {
         let Self { tree, table, .. } = self;
-        if table.ages.len() != tree.nodes().div_ceil(2) {
+        if !table.is_sized(tree.nodes()) {
             return Err(Refusal::Size(tree.nodes() as u64));
         }
         judged(tree)?;
@@ -79,11 +79,7 @@ impl Dated {
 
     /// That it was refused, and left the heights as they came.
     fn refused(&self, why: Refusal) -> Compared<&'static str> {
-        let word = self.left(&self.tree.heights, self.call.is_refused(why))?;
-        Ok(match why {
-            Refusal::Parameter(_) => named(self.table.process(), &self.table.ages),
-            _ => word,
-        })
+        self.left(&self.tree.heights, self.table.refused(&self.call, why))
     }
 }
 
