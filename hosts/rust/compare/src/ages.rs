@@ -75,6 +75,11 @@ impl Table {
         [Guarded::new(&minima, noise, chance), Guarded::new(&maxima, noise, chance)]
     }
 
+    /// The ages, and how many of the last the two slices are without.
+    pub fn shown(&self) -> String {
+        format!("ages {:x?} less {:?}", self.ages, self.cut)
+    }
+
     /// That a call with the table was refused; a 5 is counted by how many tips are at fault.
     pub fn refused(&self, call: &Called, why: Refusal) -> Compared<&'static str> {
         let word = call.is_refused(why)?;
@@ -167,7 +172,7 @@ pub fn validate_ages(chance: &mut Chance) -> Compared<&'static str> {
     if !(minima.guards_kept() && maxima.guards_kept()) {
         return Err("something beside the table was written".into());
     }
-    answer.map_err(|fault| format!("ages {:x?} less {:?}{fault}", table.ages, table.cut))
+    answer.map_err(|fault| format!("{}{fault}", table.shown()))
 }
 
 /// The number of nodes, the lengths, the tips, and the fields of the process.

@@ -67,8 +67,8 @@ impl Dated {
     /// That the call left these heights and was answered so; otherwise all that it was given.
     fn left(&self, expected: &[f64], answer: Compared<&'static str>) -> Compared<&'static str> {
         let told = |fault| {
-            let (tree, ages) = (shown(&self.tree), &self.table.ages);
-            format!("{tree}, ages {ages:x?}{fault}\nheights afterwards: {}", bits(&self.heights))
+            let (tree, ages) = (shown(&self.tree), self.table.shown());
+            format!("{tree}, {ages}{fault}\nheights afterwards: {}", bits(&self.heights))
         };
         if !same_floats(&self.heights, expected) {
             let code = self.call.code;
