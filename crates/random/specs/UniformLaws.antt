@@ -1,20 +1,20 @@
 -- A uniform is exact: its value is the draw's top 53 bits over 2 ^ 53 (`uniform-exact`), and it is below 1 (`unit-lt-one`).
--- So is what the code forms of two parts (`uniform-parts`): the draw's upper 21 bits and the 32 below them, each in the last places of a power of 2.
--- Assumes nothing.
+-- It is the Rust's quotient by 2 ^ 53 (`quotient-uniform`) and the code's product with 2 ^ -53 (`product-uniform`), which have the same bits for every
+-- numerator (`same-bits`). Assumes nothing.
 use mathlib.Core.Path.{_≡_, refl, sym, ap, _∙_}
-use mathlib.Core.Bool.{Bool, true, false, true≢false, not, cond}
-use Prim.Native.Nat.{ℕ, suc, _+_, _-_, _*_, _/_, _%_, _^_, _≤_, _<_}
-use native.Mathlib.Nat.{mod-lt, mul-assoc, lt-of-lt-of-le, mul-lt-mul-of-pos-right}
+use mathlib.Core.Bool.{true, false, true≢false}
+use Prim.Native.Nat.{ℕ, _*_, _/_, _^_, _<_}
+use native.Mathlib.Nat.{mod-lt, mul-comm, mul-assoc, mul-pos, le-of-lt, lt-of-lt-of-le, mul-lt-mul-of-pos-right}
 use native.Mathlib.Omega.{arith}
-use lib.Dec.{lit<, lit≤, ltb}
-use borrow.Author.Tests.{lt-ltb, le-ltb, lt-leb, ne-eqb, ltb-true, ltb-false}
+use lib.Dec.{lit<, lit≤}
+use borrow.Author.Tests.{lt-ltb}
 use lib.IntN.{pos}
 use lib.Pow.{shr-lt, shl-lt}
-use lib.Ieee.{Float, nan, inf, fin, binary64, up, down, round, sum, add, sub, lt, ofFields, ofBits}
-use lib.Ieee.Exact.{HasValue, odd-sign, round-exact}
+use lib.Ieee.{Float, nan, inf, fin, binary64, up, down, unlike, round, mul, div, lt, ofInt, ofBits, toBits}
+use lib.Ieee.Exact.{HasValue, round-exact}
+use lib.Ieee.Back.{round-whole}
 use lib.Ieee.Fits.{down-pos}
 use lib.Ieee.Scale.{round-same}
-use Rattle.random.specs.SumLaws.{sum-same, add-sum, sub-sum}
 use Rattle.random.specs.Xoshiro.{output}
 use Rattle.random.specs.Generator.{wordOf, uniformOf}
 use Rattle.random.specs.declared.Random.{Random}
@@ -57,99 +57,53 @@ unit-lt-one x u = fraction-lt-one x (u .numerator) (u .small) (u .exact)
 pub uniform-unit : (w : ℕ) → w < 2 ^ 64 → UnitFraction (uniformOf w)
 uniform-unit w h = record { numerator = w / 2 ^ 11; small = top-lt w h; exact = uniform-exact w h }
 
--- ---- the parts of which the code forms it
+-- ---- by a product, and by the Rust's quotient
 
--- x is a / 2 ^ 53 in size
-abbrev Parts : Float → Bool → ℕ → Type 0
-Parts x s a = HasValue x s (a * 2 ^ 1021) (2 ^ 1074)
+-- 2 ^ -53, and 2 ^ 53 as the Rust has it, `(1u64 << 53) as f64`
+abbrev pub twoToMinus53 : Float
+twoToMinus53 = ofBits binary64 0x3ca0_0000_0000_0000
 
--- a / 2 ^ 53, however it is written
-scaled : (a : ℕ) → a * 2 ^ 1021 * 2 ^ 53 ≡ a * 2 ^ 1074
-scaled a = mul-assoc a (2 ^ 1021) (2 ^ 53)
+abbrev pub twoTo53 : Float
+twoTo53 = ofInt binary64 (pos (2 ^ 53))
 
-module _ (s t : Bool) (x y : Float) (a b : ℕ) (v : Parts x s a) (w : Parts y t b) where
-  parts-add : add binary64 x y ≡ sum binary64 s a t b (2 ^ 53)
-  parts-add = add-sum _ _ _ (lit< tt) s t x y v w ∙ sum-same s t _ _ _ a b (2 ^ 53) (lit< tt) (lit< tt) (scaled a) (scaled b)
+-- a numerator as a float, times 2 ^ -53 or over 2 ^ 53
+abbrev pub product : ℕ → Float
+product n = mul binary64 (ofInt binary64 (pos n)) twoToMinus53
 
-  parts-sub : sub binary64 x y ≡ sum binary64 s a (not t) b (2 ^ 53)
-  parts-sub = sub-sum _ _ _ (lit< tt) s t x y v w ∙ sum-same s (not t) _ _ _ a b (2 ^ 53) (lit< tt) (lit< tt) (scaled a) (scaled b)
+abbrev pub quotient : ℕ → Float
+quotient n = div binary64 (ofInt binary64 (pos n)) twoTo53
 
--- the bits of a power of 2 with t in its last places
-bits-value : (y t : ℕ) → y < 2046 → t < 2 ^ 52 → HasValue (ofBits binary64 (suc y * 2 ^ 52 + t)) false ((2 ^ 52 + t) * 2 ^ y) (2 ^ 1074)
-unfolding ofBits ofFields
-bits-value y t h k =
-    let b = suc y * 2 ^ 52 + t in
-    let p : b % 2 ^ 63 / 2 ^ 52 ≡ suc y = omega arith in
-    let q : b % 2 ^ 52 ≡ t = omega arith in
-    rw (lt-leb (2 ^ 63) b (omega arith), p, q, ne-eqb (suc y) 2047 (λ e. omega arith)) (odd-sign 53 false (2 ^ 52 + t) y 1074)
+-- at every float, infinities and NaN too, the product with 2 ^ -53 is the quotient by 2 ^ 53
+pub product-quotient : (x : Float) → mul binary64 x twoToMinus53 ≡ div binary64 x twoTo53
+unfolding mul div ofBits ofInt
+product-quotient nan = refl
+product-quotient (inf s) = refl
+product-quotient (fin s m e) = ap (λ (d : ℕ). round binary64 (unlike s false) (m * up e * 1) d) (mul-comm (down e) (2 ^ 53))
 
--- 2 ^ 31 + h / 2 ^ 21
-high-parts : (h : ℕ) → h < 2 ^ 21 → Parts (ofBits binary64 (1054 * 2 ^ 52 + h)) false ((2 ^ 52 + h) * 2 ^ 32)
-high-parts h k = rw (mul-assoc (2 ^ 52 + h) (2 ^ 32) (2 ^ 1021)) (bits-value 1053 h (lit< tt) (omega arith))
+-- request S-3, "show the bits to be the division's for all 2^53 numerators": so they are for every whole number
+pub same-bits : (n : ℕ) → toBits binary64 (product n) ≡ toBits binary64 (quotient n)
+same-bits n = ap (toBits binary64) (product-quotient (ofInt binary64 (pos n)))
 
--- 1 / 2 + l / 2 ^ 53
-low-parts : (l : ℕ) → l < 2 ^ 32 → Parts (ofBits binary64 (1022 * 2 ^ 52 + l)) false (2 ^ 52 + l)
-low-parts l k = bits-value 1021 l (lit< tt) (omega arith)
+-- a numerator as a float is the numerator itself
+pub numerator-exact : (n : ℕ) → n < 2 ^ 53 → HasValue (ofInt binary64 (pos n)) false n 1
+unfolding ofInt
+numerator-exact n h = round-whole binary64 false n (le-of-lt h)
 
--- what is taken off, 2 ^ 31 + 1 / 2
-abbrev pub offset : Float
-offset = ofBits binary64 (1054 * 2 ^ 52 + 2 ^ 20)
+-- a whole number over 2 ^ 53
+whole-over : (x : Float) (n : ℕ) → HasValue x false n 1 → div binary64 x twoTo53 ≡ round binary64 false n (2 ^ 53)
+unfolding div ofInt
+whole-over nan n v = absurd v
+whole-over (inf s) n v = absurd v
+whole-over (fin true m e) n v = absurd (true≢false (v .0))
+whole-over (fin false m e) n v =
+    round-same binary64 false (m * up e * 1) (2 ^ 53 * down e) n (2 ^ 53) (mul-pos (lit< tt) (down-pos e)) (lit< tt)
+    (ap (λ (z : ℕ). z * 2 ^ 53) (v .1) ∙ mul-assoc n (down e) (2 ^ 53) ∙ ap (λ (z : ℕ). n * z) (mul-comm (down e) (2 ^ 53)))
 
--- q / 2 ^ 21
-rounded-parts : (s : Bool) (q : ℕ) → q < 2 ^ 53 → Parts (round binary64 s (q * 2 ^ 32) (2 ^ 53)) s (q * 2 ^ 32)
-rounded-parts s q k =
-    rw (round-same binary64 s (q * 2 ^ 32) (2 ^ 53) (q * 2 ^ 32 * 2 ^ 1021) (2 ^ 1074) (lit< tt) (lit< tt) (sym (scaled (q * 2 ^ 32))))
-    (round-exact binary64 s (q * 2 ^ 32 * 2 ^ 1021) (2 ^ 1074) q 1053 (lit< tt) k (lt-of-lt-of-le (shl-lt 53 1053 k) (lit≤ tt))
-    (ap (λ (x : ℕ). x * 2 ^ 1074) (mul-assoc q (2 ^ 32) (2 ^ 1021))))
-
--- a negative number and one that is as large or larger
-owed : (a b c : ℕ) → a ≤ b → sum binary64 true a false b c ≡ round binary64 false (b - a) c
-unfolding sum
-owed a b c h = go (ltb a b) refl
-  where
-    go : (o : Bool) → ltb a b ≡ o → cond o (round binary64 false (b - a) c) (round binary64 (ltb b a) (a - b) c) ≡ round binary64 false (b - a) c
-    go true e = refl
-    go false e = let z = ltb-false a b e in let d : a - b ≡ b - a = omega arith in rw (le-ltb b a h, d)
-
--- the sum of the parts
-module _ (h l : ℕ) (H : h < 2 ^ 21) (L : l < 2 ^ 32) where
-  abbrev high : Float
-  high = sub binary64 (ofBits binary64 (1054 * 2 ^ 52 + h)) offset
-
-  high-is : high ≡ sum binary64 false ((2 ^ 52 + h) * 2 ^ 32) true ((2 ^ 52 + 2 ^ 20) * 2 ^ 32) (2 ^ 53)
-  high-is = parts-sub false false _ offset _ _ (high-parts h H) (high-parts (2 ^ 20) (lit< tt))
-
-  low : Parts (ofBits binary64 (1022 * 2 ^ 52 + l)) false (2 ^ 52 + l)
-  low = low-parts l L
-
-  parts-sum : add binary64 high (ofBits binary64 (1022 * 2 ^ 52 + l)) ≡ round binary64 false (h * 2 ^ 32 + l) (2 ^ 53)
-  unfolding sum
-  parts-sum = go (ltb ((2 ^ 52 + h) * 2 ^ 32) ((2 ^ 52 + 2 ^ 20) * 2 ^ 32)) refl
-    where
-      go : (o : Bool) → ltb ((2 ^ 52 + h) * 2 ^ 32) ((2 ^ 52 + 2 ^ 20) * 2 ^ 32) ≡ o
-          → add binary64 high (ofBits binary64 (1022 * 2 ^ 52 + l)) ≡ round binary64 false (h * 2 ^ 32 + l) (2 ^ 53)
-      go true e =
-          let z = ltb-true ((2 ^ 52 + h) * 2 ^ 32) ((2 ^ 52 + 2 ^ 20) * 2 ^ 32) e in
-          let q = 2 ^ 20 - h in
-          let d : (2 ^ 52 + 2 ^ 20) * 2 ^ 32 - (2 ^ 52 + h) * 2 ^ 32 ≡ q * 2 ^ 32 = omega arith in
-          let m : 2 ^ 52 + l - q * 2 ^ 32 ≡ h * 2 ^ 32 + l = omega arith in
-          let x : high ≡ round binary64 true (q * 2 ^ 32) (2 ^ 53) = high-is ∙ rw (e, d) in
-          parts-add true false high _ (q * 2 ^ 32) (2 ^ 52 + l) (rw x (rounded-parts true q (omega arith))) low
-          ∙ owed (q * 2 ^ 32) (2 ^ 52 + l) (2 ^ 53) (omega arith)
-          ∙ ap (λ (a : ℕ). round binary64 false a (2 ^ 53)) m
-      go false e =
-          let z = ltb-false ((2 ^ 52 + h) * 2 ^ 32) ((2 ^ 52 + 2 ^ 20) * 2 ^ 32) e in
-          let q = h - 2 ^ 20 in
-          let d : (2 ^ 52 + h) * 2 ^ 32 - (2 ^ 52 + 2 ^ 20) * 2 ^ 32 ≡ q * 2 ^ 32 = omega arith in
-          let m : q * 2 ^ 32 + (2 ^ 52 + l) ≡ h * 2 ^ 32 + l = omega arith in
-          let x : high ≡ round binary64 false (q * 2 ^ 32) (2 ^ 53) = high-is ∙ rw (e, d) in
-          parts-add false false high _ (q * 2 ^ 32) (2 ^ 52 + l) (rw x (rounded-parts false q (omega arith))) low
-          ∙ ap (λ (a : ℕ). round binary64 false a (2 ^ 53)) m
-
--- the upper 21 of a draw's top 53 bits, and the other 32
-pub uniform-parts : (w : ℕ) → w < 2 ^ 64
-    → add binary64 (sub binary64 (ofBits binary64 (1054 * 2 ^ 52 + w / 2 ^ 43)) offset) (ofBits binary64 (1022 * 2 ^ 52 + w / 2 ^ 11 % 2 ^ 32)) ≡ uniformOf w
+-- the Rust's `(self.next_u64() >> 11) as f64 / (1u64 << 53) as f64` is the draw's uniform
+pub quotient-uniform : (w : ℕ) → w < 2 ^ 64 → quotient (w / 2 ^ 11) ≡ uniformOf w
 unfolding uniformOf
-uniform-parts w h =
-    let m : w / 2 ^ 43 * 2 ^ 32 + w / 2 ^ 11 % 2 ^ 32 ≡ w / 2 ^ 11 = omega arith in
-    parts-sum (w / 2 ^ 43) (w / 2 ^ 11 % 2 ^ 32) (omega arith) (omega arith) ∙ ap (λ (a : ℕ). round binary64 false a (2 ^ 53)) m
+quotient-uniform w h = whole-over _ (w / 2 ^ 11) (numerator-exact (w / 2 ^ 11) (top-lt w h))
+
+-- and so is the product
+pub product-uniform : (w : ℕ) → w < 2 ^ 64 → product (w / 2 ^ 11) ≡ uniformOf w
+product-uniform w h = product-quotient _ ∙ quotient-uniform w h

@@ -3,7 +3,9 @@
 // Assumes nothing.
 ghost use mathlib.Core.Bool.{_&&_};
 ghost use mathlib.Core.Path.{_≡_};
-ghost use Prim.Native.Nat.{_+_, _%_, _^_, _<_};
+ghost use Prim.Native.Nat.{_+_, _/_, _%_, _^_, _<_};
+ghost use lib.IntN.{pos};
+ghost use lib.Ieee.{binary64, ofInt};
 ghost use Rattle.random.specs.SplitMix.{advance, mix};
 ghost use Rattle.random.specs.Generator.{stateOf, fromState, seeded, uniformOf, drawnWord, drawnUniform, drawnCoin};
 ghost use Rattle.random.specs.Draw.{below, belowOther, uniform, coin, fairLow, pick, run, countable, allowed, drawnNumber, drawnReal, drawnSide};
@@ -19,10 +21,17 @@ const LARGEST_N: usize = 0x1_0000_0000;
 
 const LARGEST_ALLOWANCE: u32 = 65535;
 
-// The bits of 2^31 and of 1/2, whose last places count 2^-21 and 2^-53.
-const HIGH_BITS: u64 = 0x41e0_0000_0000_0000;
+// 2^84 and 2^52, whose last places count 2^32 and 1, and the bits of each.
+const TWO_TO_84: f64 = 19342813113834066795298816.0;
 
-const LOW_BITS: u64 = 0x3fe0_0000_0000_0000;
+const TWO_TO_84_BITS: u64 = 0x4530_0000_0000_0000;
+
+const TWO_TO_52: f64 = 4503599627370496.0;
+
+const TWO_TO_52_BITS: u64 = 0x4330_0000_0000_0000;
+
+// 2^-53.
+const TWO_TO_MINUS_53: f64 = 1.1102230246251565e-16;
 
 // The generator. All four words may be zero.
 pub struct Random {
@@ -75,14 +84,21 @@ fn mixed(x: u64) -> u64
     z ^ (z >> 31)
 }
 
-// A draw's top 53 bits over 2^53: the upper 21 are put into the last places of 2^31, the other 32 into those of 1/2, and both powers are taken
+// A draw's top 53 bits as a float: the upper 21 are put into the last places of 2^84, the other 32 into those of 2^52, and both powers are taken
 // off again, each step exactly. A cast of the bits would wait for whatever its register held before, as the compiler casts.
+fn numerator(w: u64) -> f64
+    ensures { λ r. ⌜ r ≡ ofInt binary64 (pos (w / 2 ^ 11)) ⌝ }
+{
+    let high = f64::from_bits(TWO_TO_84_BITS + (w >> 43));
+    let low = f64::from_bits(TWO_TO_52_BITS + ((w << 21) >> 32));
+    (high - TWO_TO_84) + (low - TWO_TO_52)
+}
+
+// A draw's top 53 bits over 2^53, by a product: nothing divides.
 fn unit(w: u64) -> f64
     ensures { λ r. ⌜ r ≡ uniformOf w ⌝ }
 {
-    let high = f64::from_bits(HIGH_BITS + (w >> 43));
-    let low = f64::from_bits(LOW_BITS + (w >> 11) % 0x1_0000_0000);
-    (high - 2147483648.5) + low
+    numerator(w) * TWO_TO_MINUS_53
 }
 
 impl Random {

@@ -4,20 +4,11 @@ use Rattle.random.proofs.UnitLaws.{unitLaws}
 use Rattle.random.proofs.unit.Statement.{statement}
 use Rattle.random.proofs.unit.Tie as tie
 
-add-high : tie.Need-add-high
-add-high c = search (unitLaws, needs)
-
-float-from-bits-high : tie.Need-float-from-bits-high
-float-from-bits-high c = search (unitLaws, needs)
-
-add-low : tie.Need-add-low
-add-low c = search (unitLaws, needs)
-
-float-from-bits-low : tie.Need-float-from-bits-low
-float-from-bits-low c = search (unitLaws, needs)
+numerator-requires : tie.Need-numerator-requires
+numerator-requires c κs = search needs
 
 returns : tie.Need-returns
 returns c = search (unitLaws, needs)
 
 pub unit-spec : {M : Type 1} → statement M
-unit-spec = tie.close (tie.spec add-high float-from-bits-high add-low float-from-bits-low returns)
+unit-spec = tie.close (tie.spec numerator-requires returns)
