@@ -1,11 +1,14 @@
 // Runs published vectors of xoshiro256++ and SplitMix64 and the generator's calls at their limits, and prints what agrees and what is answered.
 // Assumes nothing.
+use lines::end;
+use lines::float;
 use lines::number;
 use lines::refused;
 use lines::text;
 use random::Below;
 use random::Random;
 use std::num::wrapping_add_u64;
+use words::rotate_left;
 
 // The first draws from the state 1, 2, 3, 4, by the reference xoshiro256plusplus.c, as the crate rand_xoshiro publishes them.
 const DRAWS: [u64; 10] = [
@@ -142,6 +145,24 @@ fn outputs(name: &[u8], seed: u64, published: &[u64]) {
     agreed(name, same_outputs(seed, published), published.len());
 }
 
+// The generator whose first draw is w: of its four words only the last is not 0, and a draw of such a generator is that word rotated left by 23.
+fn drawing(w: u64) -> Random {
+    Random::from_state([0, 0, 0, rotate_left(w, 41)])
+}
+
+// A line on the uniforms of a numerator below 2^53, by their bits: of the lowest and of the highest draw whose top 53 bits it is.
+fn uniforms(name: &[u8], numerator: u64) {
+    text(b"uniform of ");
+    text(name);
+    text(b":");
+    let lowest = numerator << 11;
+    let low = drawing(lowest).uniform();
+    let high = drawing(lowest + 2047).uniform();
+    float(low.value);
+    float(high.value);
+    end();
+}
+
 // A line on one call of `below`: the number and the draws made, or the refusal's number and detail.
 fn below(name: &[u8], g: Random, n: usize, allowance: u32) {
     text(name);
@@ -199,6 +220,16 @@ fn values(counting: Random) {
     says(b"coin from 2^63,0,0,0 is the first side", d.value);
 }
 
+// The numerators at which a part of the numerator, or the float that is formed, begins or ends.
+fn numerators() {
+    uniforms(b"0", 0);
+    uniforms(b"1", 1);
+    uniforms(b"2^32 - 1", 0xffff_ffff);
+    uniforms(b"2^32", 0x1_0000_0000);
+    uniforms(b"2^52", 0x10_0000_0000_0000);
+    uniforms(b"2^53 - 1", 0x1f_ffff_ffff_ffff);
+}
+
 fn numbers() {
     let zeros = Random::from_state([0, 0, 0, 0]);
     below(b"0,0,0,0", zeros, 4, 1);
@@ -225,6 +256,7 @@ fn main() {
     let counting = Random::from_state([1, 2, 3, 4]);
     published(counting);
     values(counting);
+    numerators();
     numbers();
     out_of_limits(counting);
 }
