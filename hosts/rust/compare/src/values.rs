@@ -54,25 +54,48 @@ fn is_flag(call: &Called, holds: bool) -> Compared<&'static str> {
 
 // ---- the generator
 
+/// A draw whose top 53 bits are a number of any size, or one at which the float of them changes its form.
+fn sized_draw(chance: &mut Chance) -> u64 {
+    const ENDS: [u64; 6] = [0, 1, (1 << 32) - 1, 1 << 32, 1 << 52, (1 << 53) - 1];
+    let size = chance.between(11, 63);
+    let numerator = if chance.once_in(4) { chance.pick(&ENDS) } else { chance.word() >> size };
+    numerator << 11 | chance.word() >> 53
+}
+
+/// The words of a generator whose first draw is the one given, by its last word alone.
+fn drawing(draw: u64) -> [u64; 4] {
+    [0, 0, 0, draw.rotate_right(23)]
+}
+
+/// How a uniform is counted: those below 2^-21, of which a generator gives few, by themselves.
+fn size_of(uniform: f64) -> &'static str {
+    if uniform * f64::from(1 << 21) < 1.0 { "below 2^-21" } else { "given" }
+}
+
 /// Uniforms and coins along a generator, by one record and by the wrapper's generator. Of four zero words, of which the
 /// Rust has no generator, each draw is 0.
 fn draws(chance: &mut Chance, tally: &mut Tally) -> Compared<()> {
-    let from = if chance.once_in(32) { [0; 4] } else { state(chance) };
+    let from = match chance.below(32) {
+        0 => [0; 4],
+        1..8 => drawing(sized_draw(chance)),
+        _ => state(chance),
+    };
     let mut rust = (from != [0; 4]).then(|| random(from));
     let mut typed = Generator::from_state(from);
     let allowance = chance.word();
     let mut record = noisy(chance, from, 0, allowance);
     for _ in 0..chance.pick(&[1, 2, 4, 16]) {
         let coin = chance.once_in(2);
-        let (name, drawn) = if coin {
-            ("coin", u64::from(rust.as_mut().is_some_and(|rust| rust.coin())))
+        let (name, drawn, given) = if coin {
+            ("coin", u64::from(rust.as_mut().is_some_and(|rust| rust.coin())), "given")
         } else {
-            ("uniform", rust.as_mut().map_or(0.0, |rust| rust.uniform()).to_bits())
+            let uniform = rust.as_mut().map_or(0.0, |rust| rust.uniform());
+            ("uniform", uniform.to_bits(), size_of(uniform))
         };
         let call = called(record, if coin { exports::rove_coin } else { exports::rove_uniform });
         let after = rust.as_ref().map_or([0; 4], reference::state);
         let answer = call.is(0, &[&stepped(after)[..], &answered(0, 1, 0, drawn, 0)].concat());
-        tally.also(name, of(name, answer.map(|()| "given"))?, 1);
+        tally.also(name, of(name, answer.map(|()| given))?, 1);
         let by_type = if coin { u64::from(typed.coin()) } else { typed.uniform().to_bits() };
         if by_type != drawn || typed.state() != after {
             return Err(format!("{name} by the wrapper: {by_type:x} and not {drawn:x}, from {from:x?}"));

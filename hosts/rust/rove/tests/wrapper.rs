@@ -86,6 +86,19 @@ fn uniforms_and_coins() {
     assert!(!Generator::from_state([1, 2, 3, 4]).coin());
 }
 
+/// Of a generator whose last word alone is not 0, the first draw is that word rotated left by 23.
+#[test]
+fn uniforms_of_numerators() {
+    for numerator in [0u64, 1, (1 << 32) - 1, 1 << 32, 1 << 52, (1 << 53) - 1] {
+        for rest in [0, 2047] {
+            let draw = numerator << 11 | rest;
+            let mut drawing = Generator::from_state([0, 0, 0, draw.rotate_right(23)]);
+            assert_eq!(drawing.clone().next_u64(), draw);
+            assert_eq!(drawing.uniform().to_bits(), (numerator as f64 / (1u64 << 53) as f64).to_bits());
+        }
+    }
+}
+
 #[test]
 fn moves_by_their_numbers() {
     for (number, kind) in Move::ALL.into_iter().enumerate() {
