@@ -30,7 +30,7 @@ module _ (A B D a b c : ℕ) (P : 0 < D) (p : 0 < c) (i : A * c ≡ a * D) (j : 
   same-difference = sub-mul A B c ∙ rw (i, j) (sym (sub-mul a b D))
 
 module _ (s t : Bool) (A B D a b c : ℕ) (P : 0 < D) (p : 0 < c) (i : A * c ≡ a * D) (j : B * c ≡ b * D) where
-  pub sum-same : sum binary64 s A t B D ≡ sum binary64 s a t b c
+  sum-same : sum binary64 s A t B D ≡ sum binary64 s a t b c
   unfolding sum
   sum-same =
       rw (

@@ -21,13 +21,7 @@ const LARGEST_N: usize = 0x1_0000_0000;
 
 const LARGEST_ALLOWANCE: u32 = 65535;
 
-// 2^84 and 2^52, whose last places count 2^32 and 1, and the bits of each.
-const TWO_TO_84: f64 = 19342813113834066795298816.0;
-
-const TWO_TO_84_BITS: u64 = 0x4530_0000_0000_0000;
-
-const TWO_TO_52: f64 = 4503599627370496.0;
-
+// The bits of 2^52, whose last places count 1.
 const TWO_TO_52_BITS: u64 = 0x4330_0000_0000_0000;
 
 // 2^-53.
@@ -84,14 +78,14 @@ fn mixed(x: u64) -> u64
     z ^ (z >> 31)
 }
 
-// A draw's top 53 bits as a float: the upper 21 are put into the last places of 2^84, the other 32 into those of 2^52, and both powers are taken
-// off again, each step exactly. A cast of the bits would wait for whatever its register held before, as the compiler casts.
+// A draw's top 53 bits as a float, exactly: the lower 52 are put into the last places of 2^52, and 2^52 is taken off where the top bit is 0. Where it is
+// 1, that 2^52 is its own. A cast of the bits would wait for whatever its register held before, as the compiler casts.
 fn numerator(w: u64) -> f64
     ensures { λ r. ⌜ r ≡ ofInt binary64 (pos (w / 2 ^ 11)) ⌝ }
 {
-    let high = f64::from_bits(TWO_TO_84_BITS + (w >> 43));
-    let low = f64::from_bits(TWO_TO_52_BITS + ((w << 21) >> 32));
-    (high - TWO_TO_84) + (low - TWO_TO_52)
+    let raised = f64::from_bits(TWO_TO_52_BITS + ((w << 1) >> 12));
+    let excess = f64::from_bits(TWO_TO_52_BITS * (1 - (w >> 63)));
+    raised - excess
 }
 
 // A draw's top 53 bits over 2^53, by a product: nothing divides.

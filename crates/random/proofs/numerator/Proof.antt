@@ -4,20 +4,23 @@ use Rattle.random.proofs.UnitLaws.{unitLaws}
 use Rattle.random.proofs.numerator.Statement.{statement}
 use Rattle.random.proofs.numerator.Tie as tie
 
-add-high : tie.Need-add-high
-add-high c = search (unitLaws, needs)
+add-raised : tie.Need-add-raised
+add-raised c = search needs
 
-float-from-bits-high : tie.Need-float-from-bits-high
-float-from-bits-high c = search (unitLaws, needs)
+float-from-bits-raised : tie.Need-float-from-bits-raised
+float-from-bits-raised c = search (unitLaws, needs)
 
-add-low : tie.Need-add-low
-add-low c = search (unitLaws, needs)
+sub-excess : tie.Need-sub-excess
+sub-excess c = search needs
 
-float-from-bits-low : tie.Need-float-from-bits-low
-float-from-bits-low c = search (unitLaws, needs)
+mul-excess : tie.Need-mul-excess
+mul-excess c = search needs
+
+float-from-bits-excess : tie.Need-float-from-bits-excess
+float-from-bits-excess c = search (unitLaws, needs)
 
 returns : tie.Need-returns
 returns c = search (unitLaws, needs)
 
 pub numerator-spec : {M : Type 1} → statement M
-numerator-spec = tie.close (tie.spec add-high float-from-bits-high add-low float-from-bits-low returns)
+numerator-spec = tie.close (tie.spec add-raised float-from-bits-raised sub-excess mul-excess float-from-bits-excess returns)
