@@ -220,7 +220,7 @@ fn values(counting: Random) {
     says(b"coin from 2^63,0,0,0 is the first side", d.value);
 }
 
-// The numerators at which a part of the numerator, or the float that is formed, begins or ends.
+// Numerators at both ends of their range, and where their lower 32 bits end and the top bit begins.
 fn numerators() {
     uniforms(b"0", 0);
     uniforms(b"1", 1);

@@ -54,7 +54,7 @@ fn is_flag(call: &Called, holds: bool) -> Compared<&'static str> {
 
 // ---- the generator
 
-/// A draw whose top 53 bits are a number of any size, or one at which the float of them changes its form.
+/// A draw whose top 53 bits are a number of any size, or one at an end of their range or of a part of them.
 fn sized_draw(chance: &mut Chance) -> u64 {
     const ENDS: [u64; 6] = [0, 1, (1 << 32) - 1, 1 << 32, 1 << 52, (1 << 53) - 1];
     let size = chance.between(11, 63);
