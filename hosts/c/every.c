@@ -768,6 +768,9 @@ static void is_monophyletic(call make, struct host *h)
     put_members(h, 1, 0, 255);
     done(make, h, 0);
     expect(h->words[ROVE_FIRST] == 0, "tips 0 and 2");
+    put_members(h, 0, 2, 0);
+    done(make, h, 0);
+    expect(h->words[ROVE_FIRST] == 1, "tip 1 alone");
 }
 
 static void clade_age(call make, struct host *h)
@@ -778,6 +781,12 @@ static void clade_age(call make, struct host *h)
     put_members(h, 1, 0, 255);
     done(make, h, 0);
     expect(h->words[ROVE_FIRST] == 2000, "tips 0 and 2");
+    put_members(h, 0, 2, 0);
+    done(make, h, 0);
+    expect(h->words[ROVE_FIRST] == 1000, "the stem of tip 1");
+    put_members(h, 0, 0, 1);
+    done(make, h, 0);
+    expect(h->words[ROVE_FIRST] == 2000, "the stem of tip 2");
     put_members(h, 0, 0, 0);
     refused(make, h, ROVE_REFUSAL_PARAMETER, 0);
 }

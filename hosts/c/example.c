@@ -1,6 +1,6 @@
-/* Tree F of three tips, in memory: rove_new makes its parents, its Newick copy is written, an age table for it is mended from the top, and RootScale with a
- * tuning of 0.5 moves its root from the state 1, 2, 3, 4. What comes of it is printed and compared with the documents' examples. Exits with 1 where
- * anything is wrong. */
+/* Tree F of three tips, in memory: rove_new makes its parents, its Newick copy is written, a tip is dated by its stem, an age table is mended from the top,
+ * and RootScale with a tuning of 0.5 moves the root from the state 1, 2, 3, 4. What comes of it is printed and compared with the documents' examples. Exits
+ * with 1 where anything is wrong. */
 #include <inttypes.h>
 #include <stdio.h>
 
@@ -54,6 +54,15 @@ static void check_newick(uint64_t *words, const uint16_t *pairs, const uint16_t 
     printf("newick=%.*s\n", (int)words[ROVE_FIRST], (const char *)out);
 }
 
+/* Tip 2 by itself, which is dated by the height of its parent, the root. */
+static void check_stem(uint64_t *words, const uint16_t *pairs, const uint16_t *parents, const double *heights)
+{
+    const uint8_t members[TIPS] = {0, 0, 1};
+    uint64_t answer = rove_clade_age(words, ROVE_WORDS, pairs, 2 * NODES, parents, NODES, heights, NODES, members, TIPS);
+    expect(answer == ROVE_DONE && words[ROVE_FIRST] == 2000, "the age of tip 2's stem");
+    printf("stem=%" PRIu64 "\n", words[ROVE_FIRST]);
+}
+
 /* Of an age table, tips 1 and 2 have crossed ends: the lower is named, then the other, and then the table is in order. */
 static void check_ages(void)
 {
@@ -85,6 +94,7 @@ int main(void)
     expect(rove_new(words, ROVE_WORDS, pairs, 2 * NODES, heights, NODES, parents, NODES) == ROVE_DONE, "rove_new");
     expect(words[ROVE_ROOT] == 4 && parents[0] == 3 && parents[2] == 4 && parents[4] == ROVE_NO_NODE, "root and parents");
     check_newick(words, pairs, parents, heights);
+    check_stem(words, pairs, parents, heights);
 
     set_state(words);
     words[ROVE_ALLOWANCE] = 9;

@@ -1,11 +1,11 @@
--- The ways through the code that looks for a node with lent places (`seekLaws`) and with places of its own (`partLaws`), and through the two
--- entry points (`entryLaws`, `monoLaws`, `ageLaws`). Assumes nothing.
+-- The ways through the code that looks for a node with lent places (`seekLaws`) and with places of its own (`partLaws`), through the choice of an age's
+-- node (`nodeLaws`), and through the two entry points (`entryLaws`, `monoLaws`, `ageLaws`). Assumes nothing.
 use mathlib.Core.Path.{_≡_, sym, ap, _∙_, subst}
-use mathlib.Core.Bool.{Bool, true}
+use mathlib.Core.Bool.{Bool, true, cond}
 use mathlib.Core.List.{List}
 use Prim.Native.Nat.{ℕ, _+_, _*_, _/_, _≤_, _<_}
 use native.Mathlib.Omega.{arith}
-use lib.Dec.{ltb}
+use lib.Dec.{ltb, eqb}
 use lib.ListN.{length, getD, take}
 use lib.Seq.{length-take-le}
 use lib.Ieee.{Float, nan}
@@ -20,19 +20,21 @@ use Rattle.real.specs.Printed.{printedOf}
 use Rattle.tree.specs.Bounded.{some}
 use Rattle.tree.specs.declared.Verdict.{Verdict}
 use Rattle.tree.specs.declared.Verdict.the-variants as Verdicts
-use Rattle.tree.specs.Tree.{Tree, nodesOf, height, subtree}
+use Rattle.tree.specs.Tree.{Tree, nodesOf, parent, height, subtree}
 use Rattle.tree.specs.New.{validated}
 use Rattle.tree.specs.Valid.{Valid}
 use Rattle.tree.specs.Given.{treeOf}
+use Rattle.tree.specs.PlaceLaws.{wide16}
 use Rattle.accepted.specs.WayLaws.{valid-nodes}
 use Rattle.accepted.specs.SubtreeLaws.{postorder-length}
 use Rattle.accepted.specs.ValidatedLaws.{fine-valid}
 use Rattle.clades.specs.declared.Monophyly.the-variants as Monophylies
 use Rattle.clades.specs.declared.Age.the-variants as Ages
-use Rattle.clades.specs.Clades.{marked, cladeNode, cladeAge, monophylyCall, ageCall}
-use Rattle.clades.specs.Counting.{sizeOf, weighs, firstOr, firstWeighing, Seeks, Places, Finds}
+use Rattle.clades.specs.Clades.{marked, sizeOf, cladeNode, ageNode, cladeAge, monophylyCall, ageCall}
+use Rattle.clades.specs.Counting.{weighs, firstOr, firstWeighing, Seeks, Places, Finds}
 use Rattle.clades.specs.WeightLaws.{size-none, size-some}
 use Rattle.clades.specs.CladeLaws.{clade-node, monophyletic-found, clade-found}
+use Rattle.clades.specs.StemLaws.{age-node}
 
 -- ---- with lent places
 
@@ -124,30 +126,49 @@ module _ (pairs parents : List ℕ) (heights : List Float) (root : ℕ) (members
         is-clade : r ≡ cladeNode given members
         is-clade = f ∙ clade-found (nodesOf pairs) given fine members m
 
-        pub age-node : r < length heights
-        age-node = let h = clade-node (nodesOf pairs) given fine members in let g = is-clade in let l = fine .sized .heights in omega arith
+        pub clade-place : r < length parents
+        clade-place = let h = clade-node (nodesOf pairs) given fine members in let g = is-clade in let l = fine .sized .parents in omega arith
 
-        pub age-place : Fits w64 (r * 8)
-        age-place = let h = age-node in let l = fine .sized .heights in let few = fine .sized .few in record { fits = omega arith }
+        module _ (s : ℕ) (c : s ≡ sizeOf members) (k : ℕ) (a : k ≡ cond (eqb s 1) (getD parents r 0) r) where
+          is-dated : k ≡ ageNode given members
+          unfolding ageNode parent
+          is-dated = a ∙ rw (c, is-clade)
 
-        module _ (s : ℕ) (c : s ≡ sizeOf members) (d : s ≡ 0 → ⊥) (x : Printed) (g : x ≡ printedOf (getD heights r nan)) where
-          printed-is : printedOf (height given (cladeNode given members)) ≡ x
-          unfolding height
-          printed-is = sym (g ∙ ap (λ (k : ℕ). printedOf (getD heights k nan)) is-clade)
+          pub age-place : k < length heights
+          age-place = let h = age-node (nodesOf pairs) given fine members m in let g = is-dated in let l = fine .sized .heights in omega arith
 
-          not-empty : some (marked members) (length members) ≡ true
-          not-empty = size-some members (λ z. d (c ∙ z))
+          pub age-bytes : Fits w64 (k * 8)
+          age-bytes = let h = age-place in let l = fine .sized .heights in let few = fine .sized .few in record { fits = omega arith }
 
-          pub age-is : (count : ℕ) → x ≡ Printings.Thousandths count → Ages.Thousandths count ≡ ageCall given members
-          unfolding ageCall cladeAge
-          age-is count z = rw (eq-eqb _ _ m, ← e, y, not-empty, printed-is, z)
+          module _ (d : s ≡ 0 → ⊥) (x : Printed) (g : x ≡ printedOf (getD heights k nan)) where
+            printed-is : printedOf (height given (ageNode given members)) ≡ x
+            unfolding height
+            printed-is = sym (g ∙ ap (λ (j : ℕ). printedOf (getD heights j nan)) is-dated)
 
-          pub age-outside : x ≡ Printings.Outside → Ages.Refused (Parameter 0) ≡ ageCall given members
-          unfolding ageCall cladeAge
-          age-outside z = rw (eq-eqb _ _ m, ← e, y, not-empty, printed-is, z)
+            not-empty : some (marked members) (length members) ≡ true
+            not-empty = size-some members (λ z. d (c ∙ z))
+
+            pub age-is : (count : ℕ) → x ≡ Printings.Thousandths count → Ages.Thousandths count ≡ ageCall given members
+            unfolding ageCall cladeAge
+            age-is count z = rw (eq-eqb _ _ m, ← e, y, not-empty, printed-is, z)
+
+            pub age-outside : x ≡ Printings.Outside → Ages.Refused (Parameter 0) ≡ ageCall given members
+            unfolding ageCall cladeAge
+            age-outside z = rw (eq-eqb _ _ m, ← e, y, not-empty, printed-is, z)
+
+-- ---- the node of an age
+
+module _ (parents : List ℕ) (size node : ℕ) where
+  pub node-of-one : size ≡ 1 → getD parents node 0 ≡ cond (eqb size 1) (getD parents node 0) node
+  node-of-one e = rw (eq-eqb size 1 e)
+
+  pub node-of-more : (size ≡ 1 → ⊥) → node ≡ cond (eqb size 1) (getD parents node 0) node
+  node-of-more d = rw (ne-eqb size 1 d)
+
+pub ruleset nodeLaws = (wide16, node-of-one, node-of-more)
 
 pub ruleset entryLaws = (entry-few, entry-seeks)
 
 pub ruleset monoLaws = (mono-size, mono-refused, mono-is)
 
-pub ruleset ageLaws = (age-size, age-refused, age-none, age-node, age-place, age-is, age-outside)
+pub ruleset ageLaws = (age-size, age-refused, age-none, clade-place, age-place, age-bytes, age-is, age-outside)

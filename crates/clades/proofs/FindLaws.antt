@@ -18,7 +18,8 @@ use Rattle.tree.specs.PlaceLaws.{wide16}
 use Rattle.tree.specs.ListLaws.{Before, Distinct}
 use Rattle.accepted.specs.WayLaws.{valid-nodes}
 use Rattle.accepted.specs.SubtreeLaws.{postorder-nodes, postorder-before, postorder-distinct}
-use Rattle.clades.specs.Counting.{sizeOf, weightBelow, weighs, weighed, firstOr, Seeks, Finds, Weighs}
+use Rattle.clades.specs.Clades.{sizeOf}
+use Rattle.clades.specs.Counting.{weightBelow, weighs, weighed, firstOr, Seeks, Finds, Weighs}
 use Rattle.clades.specs.WeightLaws.{weight-inner, weight-tip, weight-few}
 
 -- nothing is left of a list after its end

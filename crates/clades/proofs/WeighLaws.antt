@@ -10,9 +10,10 @@ use mir.Val.{Fits}
 use mir.Syntax.{w32, w64}
 use borrow.Author.Tests.{lt-ltb, le-ltb}
 use Rattle.tree.specs.PlaceLaws.{wide16, next-place}
-use Rattle.clades.specs.Counting.{totalTo, weight, sizeOf, weighed, heaviest, Weighs}
-use Rattle.clades.specs.SumLaws.{totalTo-most}
-use Rattle.clades.specs.WeightLaws.{weight-most}
+use Rattle.clades.specs.Clades.{countTo, marked, sizeOf}
+use Rattle.clades.specs.Counting.{weight, weighed, heaviest, Weighs}
+use Rattle.clades.specs.SumLaws.{count-most}
+use Rattle.clades.specs.WeightLaws.{weight-at, weight-most}
 
 -- ---- a tip
 
@@ -30,21 +31,20 @@ pub ruleset weightLaws = (tip-in, tip-out)
 -- ---- a set
 
 module _ (members : List Bool) where
-  pub size-start : 0 ≡ totalTo (weight members 0) 0
-  unfolding totalTo
+  pub size-start : 0 ≡ countTo (marked members) 0
+  unfolding countTo
   size-start = refl
 
-  module _ (m s : ℕ) (i : s ≡ totalTo (weight members 0) m) where
+  module _ (m s : ℕ) (i : s ≡ countTo (marked members) m) where
     pub size-fits : (b : ℕ) → length members ≤ 4095 → m < length members → b ≡ weight members 0 m → Fits w32 (s + b)
     size-fits b few h e =
-        let one = weight-most members 0 1 (omega arith) (omega arith) in
-        let x = totalTo-most (weight members 0) 1 one m in
-        let y = one m in
+        let x = count-most (marked members) m in
+        let y = weight-most members 0 1 (omega arith) (omega arith) m in
         record { fits = omega arith }
 
-    pub size-step : (b : ℕ) → b ≡ weight members 0 m → s + b ≡ totalTo (weight members 0) (m + 1)
-    unfolding totalTo
-    size-step b e = rw (add-one m) (omega arith)
+    pub size-step : (b : ℕ) → m < length members → b ≡ weight members 0 m → s + b ≡ countTo (marked members) (m + 1)
+    unfolding countTo
+    size-step b h e = let w = weight-at members 0 m h in rw (add-one m) (omega arith)
 
     pub size-end : m ≤ length members → length members ≤ m → s ≡ sizeOf members
     unfolding sizeOf

@@ -20,8 +20,8 @@ use Rattle.tree.specs.ListLaws.{Has, has-none, Before}
 use Rattle.accepted.specs.Ways.{Under, itself, through}
 use Rattle.accepted.specs.WayLaws.{valid-nodes}
 use Rattle.accepted.specs.SubtreeLaws.{subtree-induction, subtree-sound, postorder-nodes, postorder-all, postorder-before}
-use Rattle.clades.specs.Clades.{has, firstOf, marked, isBelow, exactly, over, monophyletic, cladeNode}
-use Rattle.clades.specs.Counting.{total, weight, sizeOf, weightBelow, weighs, firstOr}
+use Rattle.clades.specs.Clades.{has, firstOf, marked, sizeOf, isBelow, exactly, over, monophyletic, cladeNode}
+use Rattle.clades.specs.Counting.{total, weight, weightBelow, weighs, firstOr}
 use Rattle.clades.specs.SumLaws.{has-later, has-split, has-true, has-in, total-append, total-le}
 use Rattle.clades.specs.WeightLaws.{weight-one, weight-more, weight-inner, weighs-over, weighs-exactly, exactly-tips}
 

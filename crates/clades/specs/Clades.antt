@@ -1,7 +1,7 @@
 -- Sets of tips, given by "one mark per tip": whether one is monophyletic, and the age of its clade. Definitions only. Assumes nothing.
 use mathlib.Core.Bool.{Bool, false, not, _||_, cond, Bool·beq}
 use mathlib.Core.List.{List, [], _∷_}
-use Prim.Native.Nat.{ℕ}
+use Prim.Native.Nat.{ℕ, zero, suc, _+_}
 use lib.Dec.{eqb}
 use lib.ListN.{length, getD}
 use Rattle.answer.specs.declared.Refusal.the-variants.{Size, Parameter}
@@ -10,7 +10,7 @@ use Rattle.real.specs.declared.Printed.the-variants as Printings
 use Rattle.real.specs.Printed.{printedOf}
 use Rattle.tree.specs.declared.Verdict.{Verdict}
 use Rattle.tree.specs.declared.Verdict.the-variants as Verdicts
-use Rattle.tree.specs.Tree.{Tree, nodesOf, tipsOf, height, subtree, postorder}
+use Rattle.tree.specs.Tree.{Tree, nodesOf, tipsOf, parent, height, subtree, postorder}
 use Rattle.tree.specs.New.{validated}
 use Rattle.tree.specs.Bounded.{every, some}
 use Rattle.clades.specs.declared.Monophyly.{Monophyly}
@@ -25,6 +25,11 @@ unfoldable pub has : List ℕ → ℕ → Bool
 has [] c = false
 has (x ∷ l) c = eqb x c || has l c
 
+-- how many of the first m numbers pass the test
+unfoldable pub countTo : (ℕ → Bool) → ℕ → ℕ
+countTo test zero = 0
+countTo test (suc m) = countTo test m + cond (test m) 1 0
+
 -- the first in a list that passes the test; 0 where none does
 unfoldable pub firstOf : (ℕ → Bool) → List ℕ → ℕ
 firstOf test [] = 0
@@ -35,6 +40,10 @@ firstOf test (x ∷ l) = cond (test x) x (firstOf test l)
 -- tip i is in the set
 abbrev pub marked : List Bool → ℕ → Bool
 marked members i = getD members i false
+
+-- how many tips are in the set
+unfoldable pub sizeOf : List Bool → ℕ
+sizeOf members = countTo (marked members) (length members)
 
 -- tip i is k or below it
 abbrev pub isBelow : Tree → ℕ → ℕ → Bool
@@ -56,6 +65,11 @@ monophyletic t members = some (exactly t members) (nodesOf (t .pairs))
 unfoldable pub cladeNode : Tree → List Bool → ℕ
 cladeNode t members = firstOf (over t members) (postorder t)
 
+-- the node by whose height a clade is dated. Request S-4: of "a set of one tip", which is its own clade's node (`clade-one`), it is "its parent", "the
+-- branch's upper end"; "Sets of two tips and more keep document 01's node"
+unfoldable pub ageNode : Tree → List Bool → ℕ
+ageNode t members = cond (eqb (sizeOf members) 1) (parent t (cladeNode t members)) (cladeNode t members)
+
 -- ---- the calls: marks that are not one for each tip are refusal 1, as lengths that disagree are
 
 abbrev pub monophylyAnswered : Bool → Verdict → Monophyly
@@ -74,7 +88,7 @@ agePrinted Printings.Outside = Ages.Refused (Parameter 0)
 
 -- "an empty set" is refused too
 unfoldable pub cladeAge : Tree → List Bool → Age
-cladeAge t members = cond (some (marked members) (length members)) (agePrinted (printedOf (height t (cladeNode t members)))) (Ages.Refused (Parameter 0))
+cladeAge t members = cond (some (marked members) (length members)) (agePrinted (printedOf (height t (ageNode t members)))) (Ages.Refused (Parameter 0))
 
 abbrev pub ageAnswered : Age → Verdict → Age
 ageAnswered age Verdicts.Fine = age

@@ -8,7 +8,7 @@ use lib.Dec.{ltb, eqb}
 use lib.ListN.{length, getD}
 use Rattle.tree.specs.Tree.{tipsOf, firstIn, secondIn, subtree}
 use Rattle.order.specs.Filling.{Fills}
-use Rattle.clades.specs.Clades.{marked}
+use Rattle.clades.specs.Clades.{marked, sizeOf}
 
 -- ---- sums
 
@@ -27,10 +27,6 @@ totalTo f (suc m) = totalTo f m + f m
 -- a tip in the set weighs 1, one that is not in it as much as `others` says, and an inner node nothing
 unfoldable pub weight : List Bool → ℕ → ℕ → ℕ
 weight members others k = cond (ltb k (length members)) (cond (marked members k) 1 others) 0
-
--- how many tips are in the set
-unfoldable pub sizeOf : List Bool → ℕ
-sizeOf members = totalTo (weight members 0) (length members)
 
 -- what the tips below node k weigh, of n nodes
 unfoldable pub weightBelow : ℕ → List ℕ → List Bool → ℕ → ℕ → ℕ

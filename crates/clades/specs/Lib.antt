@@ -4,3 +4,5 @@ pub mod Counting
 pub mod SumLaws
 pub mod WeightLaws
 pub mod CladeLaws
+pub mod StemLaws
+pub mod Rows

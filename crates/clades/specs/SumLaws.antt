@@ -1,8 +1,9 @@
--- Numbers in a list, and sums. In order: the test whether a number is in a list (`has-true`, `has-false`, `has-in`); sums over lists and over the
--- first numbers, and that a sum over different numbers is one over all numbers, of those among them (`total-distinct`). Assumes nothing.
+-- Numbers in a list, sums and counts. In order: the test whether a number is in a list (`has-true`, `has-false`, `has-in`); sums over lists and over the
+-- first numbers, and that a sum over different numbers is one over all numbers, of those among them (`total-distinct`); how many of the first numbers
+-- pass a test (`count-most`, `count-some`, `count-none`, `total-count`). Assumes nothing.
 use mathlib.Core.Path.{_≡_, refl, sym, ap, _∙_}
 use mathlib.Core.Logic.{_≢_, _⊎_, inl, inr}
-use mathlib.Core.Bool.{true, false, _||_, cond, true≢false}
+use mathlib.Core.Bool.{Bool, true, false, _||_, cond, true≢false}
 use mathlib.Core.List.{List, [], _∷_, _++_}
 use Prim.Native.Nat.{ℕ, zero, suc, _+_, _*_, _≤_, _<_}
 use native.Mathlib.Omega.{arith}
@@ -10,8 +11,9 @@ use native.Mathlib.Decide.{ℕ-discrete}
 use lib.Dec.{eqb}
 use lib.ListN.{length, getD}
 use borrow.Author.Tests.{eq-eqb, ne-eqb}
+use Rattle.tree.specs.Bounded.{some}
 use Rattle.tree.specs.ListLaws.{Has, has-none, has-dec, Distinct}
-use Rattle.clades.specs.Clades.{has}
+use Rattle.clades.specs.Clades.{has, countTo}
 use Rattle.clades.specs.Counting.{total, totalTo}
 
 -- ---- the test whether a number is in a list
@@ -74,11 +76,6 @@ unfolding total
 total-most f w small [] = omega arith
 total-most f w small (x ∷ l) = let h = total-most f w small l in let s = small x in omega arith
 
-pub totalTo-most : (f : ℕ → ℕ) (w : ℕ) → ((k : ℕ) → f k ≤ w) → (m : ℕ) → totalTo f m ≤ w * m
-unfolding totalTo
-totalTo-most f w small zero = omega arith
-totalTo-most f w small (suc m) = let h = totalTo-most f w small m in let s = small m in omega arith
-
 -- of equal numbers
 pub totalTo-same : (f g : ℕ → ℕ) (m : ℕ) → ((i : ℕ) → i < m → f i ≡ g i) → totalTo f m ≡ totalTo g m
 unfolding totalTo
@@ -138,3 +135,42 @@ total-distinct f m (x ∷ l) D small =
     pick : (i : ℕ) → Dec (x ≡ i) → within f (x ∷ l) i ≡ at f x i + within f l i
     pick i (yes e) = rw (eq-eqb x i e, has-false l i (λ h. alone (rw e h))) (omega arith)
     pick i (no d) = rw (ne-eqb x i d) (omega arith)
+
+-- ---- counts
+
+-- a count is at most as much as there are numbers
+pub count-most : (test : ℕ → Bool) (m : ℕ) → countTo test m ≤ m
+unfolding countTo
+count-most test zero = omega arith
+count-most test (suc m) = let h = count-most test m in let k = one (test m) in omega arith
+  where
+    one : (b : Bool) → cond b 1 0 ≤ 1
+    one true = omega arith
+    one false = omega arith
+
+-- it is not 0 where a number passes
+pub count-some : (test : ℕ → Bool) (m c : ℕ) → c < m → test c ≡ true → 0 < countTo test m
+unfolding countTo
+count-some test zero c C e = absurd (omega arith)
+count-some test (suc m) c C e = pick (ℕ-discrete c m) (count-some test m c)
+  where
+    pick : Dec (c ≡ m) → (c < m → test c ≡ true → 0 < countTo test m) → 0 < countTo test m + cond (test m) 1 0
+    pick (yes d) rest = let z : _≡_ {A = ℕ} (cond (test m) 1 0) 1 = rw (← d, e) in omega arith
+    pick (no d) rest = let z = rest (omega arith) e in omega arith
+
+-- and 0 where none does
+pub count-none : (test : ℕ → Bool) (m : ℕ) → some test m ≡ false → countTo test m ≡ 0
+unfolding countTo some
+count-none test zero e = refl
+count-none test (suc m) e = split (some test m) (test m) refl refl e (count-none test m)
+  where
+    split : (a b : Bool) → some test m ≡ a → test m ≡ b → (a || b) ≡ false → (some test m ≡ false → countTo test m ≡ 0) → countTo test m + cond (test m) 1 0 ≡ 0
+    split true b f g e rest = absurd (true≢false e)
+    split false true f g e rest = absurd (true≢false e)
+    split false false f g e rest = let z = rest f in rw g (omega arith)
+
+-- a sum of 1 for each number that passes is their count
+pub total-count : (f : ℕ → ℕ) (test : ℕ → Bool) (m : ℕ) → ((i : ℕ) → i < m → f i ≡ cond (test i) 1 0) → totalTo f m ≡ countTo test m
+unfolding totalTo countTo
+total-count f test zero ones = refl
+total-count f test (suc m) ones = let h = total-count f test m (λ i I. ones i (omega arith)) in let s = ones m (omega arith) in omega arith

@@ -7,7 +7,7 @@ use mathlib.Core.Bool.{Bool, true, false, not, _&&_, _||_, cond, Bool·beq, true
 use mathlib.Core.List.{List, [], _∷_, _++_}
 use Prim.Native.Nat.{ℕ, zero, suc, _+_, _*_, _≤_, _<_}
 use native.Mathlib.Omega.{arith}
-use native.Mathlib.Decide.{ℕ-discrete, decLt}
+use native.Mathlib.Decide.{decLt}
 use lib.Dec.{eqb}
 use lib.ListN.{length}
 use borrow.Author.Tests.{lt-ltb, le-ltb, eq-eqb, ne-eqb}
@@ -18,9 +18,9 @@ use Rattle.tree.specs.Valid.{Valid}
 use Rattle.tree.specs.ListLaws.{distinct-few}
 use Rattle.accepted.specs.WayLaws.{valid-nodes}
 use Rattle.accepted.specs.SubtreeLaws.{subtree-inner, subtree-tip, subtree-sound, subtree-distinct}
-use Rattle.clades.specs.Clades.{has, marked, exactly, over}
-use Rattle.clades.specs.Counting.{total, totalTo, weight, sizeOf, weightBelow, weighs}
-use Rattle.clades.specs.SumLaws.{total-append, total-most, totalTo-same, within, total-distinct}
+use Rattle.clades.specs.Clades.{has, countTo, marked, sizeOf, exactly, over}
+use Rattle.clades.specs.Counting.{total, totalTo, weight, weightBelow, weighs}
+use Rattle.clades.specs.SumLaws.{total-append, total-most, totalTo-same, within, total-distinct, count-most, count-some, count-none, total-count}
 
 -- ---- weights against tests
 
@@ -36,10 +36,7 @@ told-is w b c s S (level e f) = rw (e, eq-eqb c s f)
 told-is w b c s S (lighter e f) = rw (e, ne-eqb c s (λ q. omega arith))
 told-is w b c s S (heavier e f) = rw (e, ne-eqb c s (λ q. omega arith))
 
--- what a number in the set adds to the size, and what one below a node adds to its weight
-abbrev ones : (ℕ → Bool) → ℕ → ℕ
-ones p i = cond (p i) 1 0
-
+-- what a number below a node adds to its weight
 abbrev weights : (ℕ → Bool) → (ℕ → Bool) → ℕ → ℕ → ℕ
 weights p q others i = cond (q i) (cond (p i) 1 others) 0
 
@@ -75,46 +72,15 @@ exactly-step w false false b c s (heavier e f) = heavier (rw e) (omega arith)
 
 -- so for the first m numbers
 module _ (p q : ℕ → Bool) (w : ℕ) where
-  over-told : (m : ℕ) → Told w (every (λ i. not (p i) || q i) m) (totalTo (weights p q 0) m) (totalTo (ones p) m)
-  unfolding every totalTo
+  over-told : (m : ℕ) → Told w (every (λ i. not (p i) || q i) m) (totalTo (weights p q 0) m) (countTo p m)
+  unfolding every totalTo countTo
   over-told zero = level refl refl
   over-told (suc m) = over-step w (p m) (q m) _ _ _ (over-told m)
 
-  exactly-told : (m : ℕ) → Told w (every (λ i. Bool·beq (p i) (q i)) m) (totalTo (weights p q w) m) (totalTo (ones p) m)
-  unfolding every totalTo
+  exactly-told : (m : ℕ) → Told w (every (λ i. Bool·beq (p i) (q i)) m) (totalTo (weights p q w) m) (countTo p m)
+  unfolding every totalTo countTo
   exactly-told zero = level refl refl
   exactly-told (suc m) = exactly-step w (p m) (q m) _ _ _ (exactly-told m)
-
--- a size is at most as much as there are numbers
-ones-most : (p : ℕ → Bool) (m : ℕ) → totalTo (ones p) m ≤ m
-unfolding totalTo
-ones-most p zero = omega arith
-ones-most p (suc m) = let h = ones-most p m in let k = one (p m) in omega arith
-  where
-    one : (b : Bool) → cond b 1 0 ≤ 1
-    one true = omega arith
-    one false = omega arith
-
--- and at least what each number adds
-ones-least : (p : ℕ → Bool) (m c : ℕ) → c < m → ones p c ≤ totalTo (ones p) m
-unfolding totalTo
-ones-least p zero c C = absurd (omega arith)
-ones-least p (suc m) c C = pick (ℕ-discrete c m) (ones-least p m c)
-  where
-    pick : Dec (c ≡ m) → (c < m → ones p c ≤ totalTo (ones p) m) → ones p c ≤ totalTo (ones p) m + ones p m
-    pick (yes e) rest = let z = ap (ones p) e in omega arith
-    pick (no d) rest = let z = rest (omega arith) in omega arith
-
--- of an empty set it is 0
-ones-none : (p : ℕ → Bool) (m : ℕ) → some p m ≡ false → totalTo (ones p) m ≡ 0
-unfolding totalTo some
-ones-none p zero e = refl
-ones-none p (suc m) e = split (some p m) (p m) refl refl e (ones-none p m)
-  where
-    split : (a b : Bool) → some p m ≡ a → p m ≡ b → (a || b) ≡ false → (some p m ≡ false → totalTo (ones p) m ≡ 0) → totalTo (ones p) m + ones p m ≡ 0
-    split true b f g e rest = absurd (true≢false e)
-    split false true f g e rest = absurd (true≢false e)
-    split false false f g e rest = let z = rest f in rw g (omega arith)
 
 -- ---- the weight of a number
 
@@ -124,7 +90,7 @@ unfolding weight
 weight-tips members others c h = rw (le-ltb c (length members) h)
 
 -- what a tip weighs
-weight-at : (members : List Bool) (others i : ℕ) → i < length members → weight members others i ≡ cond (marked members i) 1 others
+pub weight-at : (members : List Bool) (others i : ℕ) → i < length members → weight members others i ≡ cond (marked members i) 1 others
 unfolding weight
 weight-at members others i h = rw (lt-ltb i (length members) h)
 
@@ -157,26 +123,23 @@ weight-more members i = elim (decLt i (length members)) [
 
 -- ---- the size of a set
 
--- the size of a set, counted by its marks
-size-ones : (members : List Bool) → sizeOf members ≡ totalTo (ones (marked members)) (length members)
-unfolding sizeOf
-size-ones members = totalTo-same (weight members 0) (ones (marked members)) (length members) (λ i I. weight-at members 0 i I)
-
 -- a set of size 0 is empty
 pub size-none : (members : List Bool) → sizeOf members ≡ 0 → some (marked members) (length members) ≡ false
-size-none members e = some-false (marked members) (length members) (λ c C. clear c (marked members c) refl (ones-least (marked members) (length members) c C))
+unfolding sizeOf
+size-none members e = some-false (marked members) (length members) (λ c C. clear c C (marked members c) refl)
   where
-    clear : (c : ℕ) (b : Bool) → marked members c ≡ b → ones (marked members) c ≤ totalTo (ones (marked members)) (length members) → marked members c ≡ false
-    clear c true p h = let z = size-ones members in let y : ones (marked members) c ≡ 1 = rw p in absurd (omega arith)
-    clear c false p h = p
+    clear : (c : ℕ) → c < length members → (b : Bool) → marked members c ≡ b → marked members c ≡ false
+    clear c C true p = let h = count-some (marked members) (length members) c C p in absurd (omega arith)
+    clear c C false p = p
 
 -- one of another size is not
 pub size-some : (members : List Bool) → (sizeOf members ≡ 0 → ⊥) → some (marked members) (length members) ≡ true
+unfolding sizeOf
 size-some members d = pick (some (marked members) (length members)) refl
   where
     pick : (b : Bool) → some (marked members) (length members) ≡ b → some (marked members) (length members) ≡ true
     pick true e = e
-    pick false e = absurd (d (size-ones members ∙ ones-none (marked members) (length members) e))
+    pick false e = absurd (d (count-none (marked members) (length members) e))
 
 -- ---- the weight of a node of a valid tree
 
@@ -221,11 +184,12 @@ module _ (n : ℕ) (t : Tree) (v : Valid n t) (members : List Bool) (M : length 
       each i I = rw (weight-at members others i I)
 
   -- the size of the set, counted by them too
-  size-tips : sizeOf members ≡ totalTo (ones (marked members)) (tipsOf n)
-  size-tips = size-ones members ∙ ap (totalTo (ones (marked members))) M
+  size-tips : sizeOf members ≡ countTo (marked members) (tipsOf n)
+  unfolding sizeOf
+  size-tips = ap (countTo (marked members)) M
 
-  size-less : (w : ℕ) → tipsOf n < w → totalTo (ones (marked members)) (tipsOf n) < w
-  size-less w W = let h = ones-most (marked members) (tipsOf n) in omega arith
+  size-less : (w : ℕ) → tipsOf n < w → countTo (marked members) (tipsOf n) < w
+  size-less w W = let h = count-most (marked members) (tipsOf n) in omega arith
 
   -- where tips outside the set weigh nothing, the nodes over the set are those that weigh as much
   pub weighs-over : (k : ℕ) → k < n → weighs n (t .pairs) members 0 k ≡ over t members k
@@ -244,7 +208,7 @@ module _ (n : ℕ) (t : Tree) (v : Valid n t) (members : List Bool) (M : length 
   unfolding exactly
   exactly-tips k K e =
       below-weights 1 k K
-      ∙ totalTo-same (weights (marked members) (has (subtree n n (t .pairs) k)) 1) (ones (marked members)) (tipsOf n) each
+      ∙ total-count (weights (marked members) (has (subtree n n (t .pairs) k)) 1) (marked members) (tipsOf n) each
       ∙ sym size-tips
     where
       test : every (λ i. Bool·beq (marked members i) (has (subtree n n (t .pairs) k) i)) (tipsOf n) ≡ true
@@ -256,5 +220,5 @@ module _ (n : ℕ) (t : Tree) (v : Valid n t) (members : List Bool) (M : length 
       alike false true h = absurd (true≢false (sym h))
       alike false false h = refl
 
-      each : (i : ℕ) → i < tipsOf n → weights (marked members) (has (subtree n n (t .pairs) k)) 1 i ≡ ones (marked members) i
+      each : (i : ℕ) → i < tipsOf n → weights (marked members) (has (subtree n n (t .pairs) k)) 1 i ≡ cond (marked members i) 1 0
       each i I = alike (marked members i) (has (subtree n n (t .pairs) k) i) (every-at _ (tipsOf n) test i I)

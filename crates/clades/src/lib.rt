@@ -1,12 +1,14 @@
 // Sets of tips, one mark per tip: `is_monophyletic_in` of rove's tree.rs, and the age of a clade. Each tip has a weight, 1 in the set and
 // another outside it, and the first node in postorder whose tips weigh as much as the set is looked for. Assumes nothing.
 ghost use mathlib.Core.Path.{_≡_};
+ghost use mathlib.Core.Bool.{cond};
 ghost use Prim.Native.Nat.{_≤_, _<_};
-ghost use lib.ListN.{length};
+ghost use lib.Dec.{eqb};
+ghost use lib.ListN.{length, getD};
 ghost use Rattle.tree.specs.Tree.{nodesOf};
 ghost use Rattle.tree.specs.Given.{treeOf};
-ghost use Rattle.clades.specs.Clades.{monophylyCall, ageCall};
-ghost use Rattle.clades.specs.Counting.{weight, sizeOf, weighs, weighed, firstOr, firstWeighing, Seeks, Places, Finds, Weighs};
+ghost use Rattle.clades.specs.Clades.{sizeOf, monophylyCall, ageCall};
+ghost use Rattle.clades.specs.Counting.{weight, weighs, weighed, firstOr, firstWeighing, Seeks, Places, Finds, Weighs};
 use answer::Refusal;
 use real::Printed;
 use tree::Verdict;
@@ -160,7 +162,18 @@ pub fn is_monophyletic_in(
     Monophyly::Refused(Refusal::Size(n))
 }
 
-// The age of the first node in postorder over all marked tips: tips outside the set weigh nothing.
+// The node by whose height a set of so many tips is dated that has this node: of one tip its parent, at the upper end of its branch.
+fn age_node(parents: &[u16], size: u32, node: usize) -> usize
+    requires { ⌜ node < length (now parents) ⌝ }
+    ensures { λ r. ⌜ r ≡ cond (eqb size 1) (getD (now (parents .entry)) node 0) node ⌝ }
+{
+    if size == 1 {
+        return parents[node] as usize;
+    }
+    node
+}
+
+// The age of the first node in postorder over all marked tips, or of the parent of a single one: tips outside the set weigh nothing.
 pub fn clade_age(
     pairs: &[u16],
     parents: &[u16],
@@ -179,7 +192,7 @@ pub fn clade_age(
                     return Age::Refused(Refusal::Parameter(0));
                 }
                 let node = first_node(pairs, root, members, 0, size);
-                match real::print_age(heights[node]) {
+                match real::print_age(heights[age_node(parents, size, node)]) {
                     Printed::Thousandths(count) => {
                         return Age::Thousandths(count);
                     }

@@ -173,10 +173,13 @@ fn clade(name: &[u8], heights: &[f64], members: &[bool]) {
     text(b"\n");
 }
 
-fn small_sets() {
+fn all_sets() {
     marked(b"no tips", false, false, false);
     marked(b"tip 0", true, false, false);
+    marked(b"tip 1", false, true, false);
+    marked(b"tip 2", false, false, true);
     marked(b"tips 0 and 1", true, true, false);
+    marked(b"tips 0 and 2", true, false, true);
     marked(b"tips 1 and 2", false, true, true);
     marked(b"all tips", true, true, true);
 }
@@ -185,13 +188,30 @@ fn marked(name: &[u8], a: bool, b: bool, c: bool) {
     clade(name, &F_HEIGHTS, &[a, b, c]);
 }
 
+// Tip 0, or tip 2, with tip 0 at the one height and the root at the other.
+fn single(name: &[u8], second: bool, low: f64, high: f64) {
+    if second {
+        clade(name, &[low, 0.0, 0.0, 1.0, high], &[false, false, true]);
+    } else {
+        clade(name, &[low, 0.0, 0.0, 1.0, high], &[true, false, false]);
+    }
+}
+
+fn stems() {
+    single(b"tip 0 at a half", false, 0.5, 2.0);
+    single(b"tip 0 level with its parent", false, 1.0, 2.0);
+    single(b"tip 0 under a root at 2^43", false, 0.0, 8796093022208.0);
+    single(b"tip 2 under a root at 2^43", true, 0.0, 8796093022208.0);
+}
+
 // Tips 0 and 1, or all tips, with node 3 at the one height and the root at the other.
 fn cherry(name: &[u8], third: bool, low: f64, high: f64) {
     clade(name, &[0.0, 0.0, 0.0, low, high], &[true, true, third]);
 }
 
 fn sets() {
-    small_sets();
+    all_sets();
+    stems();
     clade(b"two marks", &F_HEIGHTS, &[true, true]);
     cherry(b"tips 0 and 1 at a sixteenth", false, 0.0625, 2.0);
     cherry(

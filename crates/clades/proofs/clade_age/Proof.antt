@@ -22,6 +22,9 @@ returns c = search (entryLaws, ageLaws, needs)
 first-node-requires : tie.Need-first-node-requires
 first-node-requires c κs = search (entryLaws, ageLaws, needs)
 
+age-node-requires : tie.Need-age-node-requires
+age-node-requires c κs = search (entryLaws, ageLaws, needs)
+
 mul-print-age : tie.Need-mul-print-age
 mul-print-age c = search (entryLaws, ageLaws, needs)
 
@@ -62,6 +65,7 @@ clade-age-spec =
     size-requires
     returns
     first-node-requires
+    age-node-requires
     mul-print-age
     shared-slice-read-print-age
     print-age-requires

@@ -2,14 +2,14 @@
 use mathlib.Core.Path.{_≡_}
 use Prim.Native.Nat.{_-_, _≤_}
 use lib.ListN.{length}
-use Rattle.clades.specs.Counting.{totalTo, weight}
+use Rattle.clades.specs.Clades.{countTo, marked}
 use Rattle.clades.proofs.WeighLaws.{sizeLaws}
 use borrow.Author.Needs.{needs}
 use Rattle.clades.proofs.size.Statement.{statement}
 use Rattle.clades.proofs.size.Tie as tie
 
 abbrev Inv-loop : tie.InvT-loop
-Inv-loop members size₀ tip₀ size tip = (tip ≤ length members) × (size ≡ totalTo (weight members 0) tip)
+Inv-loop members size₀ tip₀ size tip = (tip ≤ length members) × (size ≡ countTo (marked members) tip)
 
 abbrev μ-loop : tie.MeasureT-loop
 μ-loop members size₀ tip₀ size tip = length members - tip

@@ -1,4 +1,4 @@
-//! The calls on a tree with parameters: `initialize` and TipAge with their age table, Yule, and sets of tips.
+//! The calls on a tree with parameters: `initialize` and TipAge with their age table, and Yule.
 
 use crate::ages::{Table, dating, lowest_fault};
 use crate::oracle::{Compared, allowed, drawn, unspent};
@@ -6,7 +6,6 @@ use crate::parameters::{process_finite, value};
 use crate::plain::{bits, children, same_float, same_floats, shown};
 use crate::trees::{Called, answered, called, stepped};
 use crate::wrong::{judged, wrong_tree};
-use cases::age::thousandths;
 use cases::{Chance, Guarded};
 use rove::{Record, Refusal, Tree, exports, word};
 use scripted::dating::{Dating, TipAge};
@@ -202,88 +201,4 @@ fn density(call: &Called, tree: &Tree) -> Compared<&'static str> {
         return Ok("given");
     }
     Err(format!(", the Rust's {log:e} is not {taken:e}"))
-}
-
-// ---- sets of tips
-
-/// A tree, marks for its tips, mostly of a clade, and a record.
-fn marked(chance: &mut Chance) -> (Tree, Vec<u8>, Record) {
-    let tree = wrong_tree(chance);
-    let tips = if chance.once_in(16) { chance.below(8) } else { tree.nodes().div_ceil(2) };
-    let few = chance.pick(&[1, 2, 2, 3, 1000]);
-    let mut members: Vec<u8> =
-        (0..tips).map(|_| if chance.once_in(few) { chance.pick(&[1, 2, 255]) } else { 0 }).collect();
-    if let (Ok(rust), true) = (judged(&tree), chance.once_in(2)) {
-        let clade = chance.below(rust.nodes());
-        for (tip, mark) in members.iter_mut().enumerate() {
-            *mark = u8::from(tip < rust.tips() && is_below(&rust, tip, clade));
-        }
-    }
-    let mut record = Record(chance.words());
-    record.set_index(word::ROOT, tree.root);
-    (tree, members, record)
-}
-
-fn is_below(tree: &reference::tree::Tree, tip: usize, clade: usize) -> bool {
-    let mut node = Some(tip);
-    while let Some(at) = node {
-        if at == clade {
-            return true;
-        }
-        node = tree.parent(at);
-    }
-    false
-}
-
-/// The Rust's tree, where there is one mark for each tip.
-fn with_marks(tree: &Tree, members: &[u8]) -> Result<reference::tree::Tree, Refusal> {
-    if members.len() == tree.nodes().div_ceil(2) {
-        judged(tree)
-    } else {
-        Err(Refusal::Size(tree.nodes() as u64))
-    }
-}
-
-pub fn is_monophyletic(chance: &mut Chance) -> Compared<&'static str> {
-    let (tree, members, record) = marked(chance);
-    let call = called(record, |words| {
-        exports::rove_is_monophyletic(&tree.pairs, &tree.parents, &tree.heights, &members, words)
-    });
-    let result = match with_marks(&tree, &members) {
-        Err(why) => call.is_refused(why),
-        Ok(rust) => {
-            let marks: Vec<bool> = members.iter().map(|&mark| mark != 0).collect();
-            let is = rust.is_monophyletic(&marks);
-            call.is(0, &answered(0, 0, 0, u64::from(is), 0)).map(|()| if is { "is" } else { "is not" })
-        }
-    };
-    result.map_err(|fault| format!("{}, marks {members:?}{fault}", shown(&tree)))
-}
-
-pub fn clade_age(chance: &mut Chance) -> Compared<&'static str> {
-    let (tree, members, record) = marked(chance);
-    let call = called(record, |words| {
-        exports::rove_clade_age(&tree.pairs, &tree.parents, &tree.heights, &members, words)
-    });
-    let age = with_marks(&tree, &members)
-        .and_then(|rust| clade_height(&rust, &members).and_then(thousandths).ok_or(Refusal::Parameter(0)));
-    let result = match age {
-        Err(why) => call.is_refused(why),
-        Ok(age) => call.is(0, &answered(0, 0, 0, age, 0)).map(|()| "given"),
-    };
-    result.map_err(|fault| format!("{}, marks {members:?}{fault}", shown(&tree)))
-}
-
-/// The height of the first node in postorder that is over all marked tips; none for an empty set.
-fn clade_height(tree: &reference::tree::Tree, members: &[u8]) -> Option<f64> {
-    let size = members.iter().filter(|&&mark| mark != 0).count();
-    let mut below = vec![0; tree.nodes()];
-    let mut over = |&node: &usize| {
-        below[node] = match tree.children(node) {
-            None => usize::from(members[node] != 0),
-            Some((a, b)) => below[a] + below[b],
-        };
-        below[node] == size && size > 0
-    };
-    tree.postorder().into_iter().find(|node| over(node)).map(|node| tree.height(node))
 }

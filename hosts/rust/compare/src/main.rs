@@ -7,6 +7,7 @@
 //! `--seed S` gives other cases.
 
 mod ages;
+mod clades;
 mod copies;
 mod dating;
 mod files;

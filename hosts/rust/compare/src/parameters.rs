@@ -1,6 +1,7 @@
 //! The calls on parameters: scales, the clock, the process and its priors.
 
 use crate::ages;
+use crate::clades;
 use crate::dating;
 use crate::oracle::{Compared, allowed, drawn, tuned, unspent};
 use crate::plain::{bits, random, same_float, same_floats};
@@ -37,8 +38,8 @@ const TRIALS: [(&str, Trial); 19] = [
     ("initialize", dating::initialize),
     ("propose_age", dating::propose_age),
     ("yule_log_density", dating::yule_log_density),
-    ("is_monophyletic", dating::is_monophyletic),
-    ("clade_age", dating::clade_age),
+    ("is_monophyletic", clades::is_monophyletic),
+    ("clade_age", clades::clade_age),
 ];
 
 /// So many calls; beside each one of the trials of single values.

@@ -1,6 +1,7 @@
 //! The functions that give a single value: uniforms and coins along a generator, the factor of a scale, the table of moves,
-//! what priors estimate, and lengths. They are run beside the other parts, from a chance of their own.
+//! what priors estimate, and lengths. They are run beside the other parts, from a chance of their own, and so are single tips.
 
+use crate::clades;
 use crate::files;
 use crate::oracle::Compared;
 use crate::parameters::{priors, set_priors};
@@ -25,8 +26,12 @@ pub const OF_TREES: [(&str, Trial); 4] = [
 ];
 
 /// Beside the parameters.
-pub const OF_PARAMETERS: [(&str, Trial); 3] =
-    [("scaler", scaler), ("the table of moves", table), ("estimates", estimates)];
+pub const OF_PARAMETERS: [(&str, Trial); 4] = [
+    ("scaler", scaler),
+    ("the table of moves", table),
+    ("estimates", estimates),
+    ("a single tip", clades::single_tip),
+];
 
 /// One of these trials.
 pub fn beside(trials: &[(&str, Trial)], chance: &mut Chance, tally: &mut Tally) -> Compared<()> {

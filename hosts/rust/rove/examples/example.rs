@@ -1,6 +1,6 @@
 //! Document 01's example: RootScale on the tree 3=(0,1) at 1, 4=(3,2) at 2, once by a state file and once in memory; and
-//! the same factor by the functions that give single values, the tree's Newick copy, and an age table that is mended from
-//! the top.
+//! the same factor by the functions that give single values, the tree's Newick copy, a tip that is dated by its stem, and an
+//! age table that is mended from the top.
 
 use rove::{Ages, Answer, Generator, Move, Process, Ratio, Refusal, Tree};
 use std::fmt::Write;
@@ -37,6 +37,9 @@ fn main() {
         "Its factor is {factor}; a chain starts with the tuning {tuning}, and the tree has a length of {length}."
     );
     println!("{}", String::from_utf8(example_tree().newick().expect("a copy")).expect("text"));
+    let stem = example_tree().clade_age(&[0, 0, 1]).expect("an age");
+    assert_eq!(stem, 2000, "the height of its parent, the root");
+    println!("Tip 2 is dated by its stem, at {stem} thousandths.");
     println!("An age table is mended at tips {:?}.", mended());
 }
 

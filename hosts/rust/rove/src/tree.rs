@@ -218,7 +218,8 @@ impl Tree {
         Ok(record.0[word::FIRST] != 0)
     }
 
-    /// The age of the clade of the marked tips, in whole thousandths.
+    /// The age of the clade of the marked tips, in whole thousandths: the height of the first node in postorder over all of
+    /// them, and of a single tip that of its parent, the upper end of its stem.
     pub fn clade_age(&self, members: &[u8]) -> Result<u64, Refusal> {
         let mut record = self.record();
         let code = exports::rove_clade_age(&self.pairs, &self.parents, &self.heights, members, &mut record.0);

@@ -315,6 +315,17 @@ fn densities_and_clades() {
 }
 
 #[test]
+fn single_tips() {
+    let mut tree = tree_f();
+    let singles = [[1, 0, 0], [0, 1, 0], [0, 0, 1]];
+    assert_eq!(singles.map(|members| tree.is_monophyletic(&members)), [Ok(true); 3]);
+    assert_eq!(singles.map(|members| tree.clade_age(&members)), [Ok(1000), Ok(1000), Ok(2000)]);
+    tree.heights = vec![0.5, 1.0, 0.0, 1.0, (1u64 << 43) as f64];
+    let old = Err(Refusal::Parameter(0));
+    assert_eq!(singles.map(|members| tree.clade_age(&members)), [Ok(1000), Ok(1000), old]);
+}
+
+#[test]
 fn file() {
     assert_eq!(answer(b""), b"answer=refused,9,1\n");
     assert_eq!(answer(&vec![b'\n'; 131_073]), b"answer=refused,9,0\n");
