@@ -29,6 +29,8 @@ pub fn table() {
         show("`propose_age`", &nodes, times, propose_age(tips, times));
         show("`initialize`", &nodes, times, initialize(tips, times));
         show("`yule_log_density`", &nodes, times, yule(tips, times));
+        show("`clade_age` of one tip", &nodes, times, clade_age(tips, 1, times));
+        show("`clade_age` of all tips", &nodes, times, clade_age(tips, tips, times));
     }
 }
 
@@ -227,6 +229,31 @@ fn yule(tips: usize, times: usize) -> Vec<Way<'static>> {
     let also = rust.clone();
     vec![
         way(times, move || rust.clone(), density),
+        way(times, move || also.clone(), checked),
+        way(times, move || port.clone(), ours),
+    ]
+}
+
+/// The age of the last tips, so many of them. The Rust has no clade age; beside it stands `is_monophyletic`, which looks for
+/// the clade.
+fn clade_age(tips: usize, members: usize, times: usize) -> Vec<Way<'static>> {
+    let sample = Sample::plain(&mut Chance::new(7), tips);
+    let marks: Vec<bool> = (0..tips).map(|tip| tip >= tips - members).collect();
+    let bytes: Vec<u8> = marks.iter().map(|&mark| u8::from(mark)).collect();
+    let (rust, port) = ((rust_tree(&sample), marks), (port_tree(&sample), bytes));
+    let search = |(tree, marks): &mut (Tree, Vec<bool>)| {
+        black_box(tree.is_monophyletic(black_box(marks)));
+    };
+    let checked = |(tree, marks): &mut (Tree, Vec<bool>)| {
+        black_box(tree.validate().is_ok());
+        black_box(tree.is_monophyletic(black_box(marks)));
+    };
+    let ours = |(tree, bytes): &mut (rove::Tree, Vec<u8>)| {
+        black_box(tree.clade_age(black_box(bytes))).expect("an age");
+    };
+    let also = rust.clone();
+    vec![
+        way(times, move || rust.clone(), search),
         way(times, move || also.clone(), checked),
         way(times, move || port.clone(), ours),
     ]

@@ -41,9 +41,8 @@ impl Marked {
         let lent = Guarded::new(&self.members, |word| word as u8 | 1, chance);
         let mut record = Record(chance.words());
         record.set_index(word::ROOT, tree.root);
-        let call = called(record, |words| {
-            export(&tree.pairs, &tree.parents, &tree.heights, lent.items(), words)
-        });
+        let call =
+            called(record, |words| export(&tree.pairs, &tree.parents, &tree.heights, lent.items(), words));
         if lent.kept_but(0) { Ok(call) } else { Err("the marks were written".into()) }
     }
 
