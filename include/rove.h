@@ -327,9 +327,9 @@ uint64_t rove_yule_log_density(uint64_t *words, size_t words_len, const uint16_t
                                size_t parents_len, const double *heights, size_t heights_len);
 
 /* Of a set of tips, `members` having one byte for each tip, which is not 0 where the tip is in the set: whether the set is monophyletic, 1 or 0 into
- * ROVE_FIRST, a single tip being a clade; and the set's age, in whole thousandths, into ROVE_FIRST. A set of two tips or more is dated by the height of the
- * first node in postorder over all of them, a single tip by its stem: the height of its parent. After 1 to 4 an empty set, or one whose age is 2^43 or more,
- * is refused with 5, detail 0. */
+ * ROVE_FIRST, 1 for a single tip and 0 for an empty set; and the set's age, in whole thousandths, into ROVE_FIRST. A set of two tips or more is dated by the
+ * height of the first node in postorder over all of them, a single tip by its stem: the height of its parent. After 1 to 4 rove_clade_age refuses an empty
+ * set, and one whose age would be 2^43 or more, with 5, detail 0. */
 uint64_t rove_is_monophyletic(uint64_t *words, size_t words_len, const uint16_t *pairs, size_t pairs_len, const uint16_t *parents, size_t parents_len,
                               const double *heights, size_t heights_len, const uint8_t *members, size_t members_len);
 uint64_t rove_clade_age(uint64_t *words, size_t words_len, const uint16_t *pairs, size_t pairs_len, const uint16_t *parents, size_t parents_len,

@@ -189,8 +189,8 @@ fn marked(name: &[u8], a: bool, b: bool, c: bool) {
 }
 
 // Tip 0, or tip 2, with tip 0 at the one height and the root at the other.
-fn single(name: &[u8], second: bool, low: f64, high: f64) {
-    if second {
+fn single(name: &[u8], third: bool, low: f64, high: f64) {
+    if third {
         clade(name, &[low, 0.0, 0.0, 1.0, high], &[false, false, true]);
     } else {
         clade(name, &[low, 0.0, 0.0, 1.0, high], &[true, false, false]);
