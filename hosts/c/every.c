@@ -753,41 +753,35 @@ static void yule_log_density(call make, struct host *h)
     declined(make, h, 0);
 }
 
-static void put_members(struct host *h, uint8_t first, uint8_t second, uint8_t third)
+/* The set of no tips, of tip 1, of tip 2, of tips 0 and 1, and of tips 0 and 2. */
+static const uint8_t none[TIPS], tip_1[TIPS] = {0, 2, 0}, tip_2[TIPS] = {0, 0, 1}, pair[TIPS] = {1, 1, 0}, apart[TIPS] = {1, 0, 255};
+
+/* Of the set of these tips the call gives this number. */
+static void gives(call make, struct host *h, const uint8_t *members, uint64_t number, const char *what)
 {
-    h->members[0] = first;
-    h->members[1] = second;
-    h->members[2] = third;
+    memcpy(h->members, members, TIPS);
+    done(make, h, 0);
+    expect(h->words[ROVE_FIRST] == number, what);
 }
 
 static void is_monophyletic(call make, struct host *h)
 {
-    put_members(h, 1, 1, 0);
-    done(make, h, 0);
-    expect(h->words[ROVE_FIRST] == 1, "tips 0 and 1");
-    put_members(h, 1, 0, 255);
-    done(make, h, 0);
-    expect(h->words[ROVE_FIRST] == 0, "tips 0 and 2");
-    put_members(h, 0, 2, 0);
-    done(make, h, 0);
-    expect(h->words[ROVE_FIRST] == 1, "tip 1 alone");
+    gives(make, h, pair, 1, "tips 0 and 1");
+    gives(make, h, apart, 0, "tips 0 and 2");
+    gives(make, h, tip_1, 1, "tip 1 alone");
+    gives(make, h, none, 0, "no tips");
 }
 
 static void clade_age(call make, struct host *h)
 {
-    put_members(h, 1, 1, 0);
-    done(make, h, 0);
-    expect(h->words[ROVE_FIRST] == 1000, "tips 0 and 1");
-    put_members(h, 1, 0, 255);
-    done(make, h, 0);
-    expect(h->words[ROVE_FIRST] == 2000, "tips 0 and 2");
-    put_members(h, 0, 2, 0);
-    done(make, h, 0);
-    expect(h->words[ROVE_FIRST] == 1000, "the stem of tip 1");
-    put_members(h, 0, 0, 1);
-    done(make, h, 0);
-    expect(h->words[ROVE_FIRST] == 2000, "the stem of tip 2");
-    put_members(h, 0, 0, 0);
+    gives(make, h, pair, 1000, "tips 0 and 1");
+    gives(make, h, apart, 2000, "tips 0 and 2");
+    gives(make, h, tip_1, 1000, "the stem of tip 1");
+    gives(make, h, tip_2, 2000, "the stem of tip 2");
+    memcpy(h->members, none, TIPS);
+    refused(make, h, ROVE_REFUSAL_PARAMETER, 0);
+    memcpy(h->members, tip_2, TIPS);
+    h->heights[4] = 8796093022208.0;
     refused(make, h, ROVE_REFUSAL_PARAMETER, 0);
 }
 

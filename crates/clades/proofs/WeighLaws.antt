@@ -9,8 +9,9 @@ use lib.ListN.{length, getD}
 use mir.Val.{Fits}
 use mir.Syntax.{w32, w64}
 use borrow.Author.Tests.{lt-ltb, le-ltb}
+use Rattle.tree.specs.Bounded.{countTo}
 use Rattle.tree.specs.PlaceLaws.{wide16, next-place}
-use Rattle.clades.specs.Clades.{countTo, marked, sizeOf}
+use Rattle.clades.specs.Clades.{marked, sizeOf}
 use Rattle.clades.specs.Counting.{weight, weighed, heaviest, Weighs}
 use Rattle.clades.specs.SumLaws.{count-most}
 use Rattle.clades.specs.WeightLaws.{weight-at, weight-most}

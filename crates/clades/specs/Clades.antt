@@ -1,7 +1,7 @@
 -- Sets of tips, given by "one mark per tip": whether one is monophyletic, and the age of its clade. Definitions only. Assumes nothing.
 use mathlib.Core.Bool.{Bool, false, not, _||_, cond, Bool·beq}
 use mathlib.Core.List.{List, [], _∷_}
-use Prim.Native.Nat.{ℕ, zero, suc, _+_}
+use Prim.Native.Nat.{ℕ}
 use lib.Dec.{eqb}
 use lib.ListN.{length, getD}
 use Rattle.answer.specs.declared.Refusal.the-variants.{Size, Parameter}
@@ -12,7 +12,7 @@ use Rattle.tree.specs.declared.Verdict.{Verdict}
 use Rattle.tree.specs.declared.Verdict.the-variants as Verdicts
 use Rattle.tree.specs.Tree.{Tree, nodesOf, tipsOf, parent, height, subtree, postorder}
 use Rattle.tree.specs.New.{validated}
-use Rattle.tree.specs.Bounded.{every, some}
+use Rattle.tree.specs.Bounded.{every, some, countTo}
 use Rattle.clades.specs.declared.Monophyly.{Monophyly}
 use Rattle.clades.specs.declared.Monophyly.the-variants as Monophylies
 use Rattle.clades.specs.declared.Age.{Age}
@@ -24,11 +24,6 @@ use Rattle.clades.specs.declared.Age.the-variants as Ages
 unfoldable pub has : List ℕ → ℕ → Bool
 has [] c = false
 has (x ∷ l) c = eqb x c || has l c
-
--- how many of the first m numbers pass the test
-unfoldable pub countTo : (ℕ → Bool) → ℕ → ℕ
-countTo test zero = 0
-countTo test (suc m) = countTo test m + cond (test m) 1 0
 
 -- the first in a list that passes the test; 0 where none does
 unfoldable pub firstOf : (ℕ → Bool) → List ℕ → ℕ
@@ -65,8 +60,8 @@ monophyletic t members = some (exactly t members) (nodesOf (t .pairs))
 unfoldable pub cladeNode : Tree → List Bool → ℕ
 cladeNode t members = firstOf (over t members) (postorder t)
 
--- the node by whose height a clade is dated. Request S-4: of "a set of one tip", which is its own clade's node (`clade-one`), it is "its parent", "the
--- branch's upper end"; "Sets of two tips and more keep document 01's node"
+-- the node by whose height a clade is dated. Request S-4: of "a set of one tip" it is "its parent", "the branch's upper end", the tip being the clade's node
+-- (`clade-one`); "Sets of two tips and more keep document 01's node"
 unfoldable pub ageNode : Tree → List Bool → ℕ
 ageNode t members = cond (eqb (sizeOf members) 1) (parent t (cladeNode t members)) (cladeNode t members)
 

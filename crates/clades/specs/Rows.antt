@@ -8,12 +8,12 @@ use Rattle.answer.specs.declared.Refusal.the-variants.{Parameter}
 use Rattle.real.specs.Real as Real
 use Rattle.real.specs.Printed.{printedOf, thousandthsOf}
 use Rattle.tree.specs.Tree.{Tree, noNode, parent, height, subtree}
-use Rattle.tree.specs.Bounded.{every, some}
+use Rattle.tree.specs.Bounded.{every, some, countTo}
 use Rattle.tree.specs.New.{validated, judged, scanned, scan, visit, thenAdopt, adopt, joined, roots, agree, misdated, lowest}
 use Rattle.clades.specs.declared.Age.{Age}
 use Rattle.clades.specs.declared.Age.the-variants.{Thousandths, Refused}
 use Rattle.clades.specs.declared.Monophyly.the-variants.{Is}
-use Rattle.clades.specs.Clades.{has, countTo, firstOf, sizeOf, exactly, over, monophyletic, cladeNode, ageNode, cladeAge, ageCall, monophylyCall}
+use Rattle.clades.specs.Clades.{has, firstOf, sizeOf, exactly, over, monophyletic, cladeNode, ageNode, cladeAge, ageCall, monophylyCall}
 
 -- ---- trees
 

@@ -11,9 +11,9 @@ use native.Mathlib.Decide.{ℕ-discrete}
 use lib.Dec.{eqb}
 use lib.ListN.{length, getD}
 use borrow.Author.Tests.{eq-eqb, ne-eqb}
-use Rattle.tree.specs.Bounded.{some}
+use Rattle.tree.specs.Bounded.{some, countTo}
 use Rattle.tree.specs.ListLaws.{Has, has-none, has-dec, Distinct}
-use Rattle.clades.specs.Clades.{has, countTo}
+use Rattle.clades.specs.Clades.{has}
 use Rattle.clades.specs.Counting.{total, totalTo}
 
 -- ---- the test whether a number is in a list

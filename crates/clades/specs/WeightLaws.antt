@@ -11,14 +11,14 @@ use native.Mathlib.Decide.{decLt}
 use lib.Dec.{eqb}
 use lib.ListN.{length}
 use borrow.Author.Tests.{lt-ltb, le-ltb, eq-eqb, ne-eqb}
-use Rattle.tree.specs.Bounded.{every, some}
+use Rattle.tree.specs.Bounded.{every, some, countTo}
 use Rattle.tree.specs.BoundedLaws.{every-at, some-false}
 use Rattle.tree.specs.Tree.{Tree, tipsOf, first, second, subtree}
 use Rattle.tree.specs.Valid.{Valid}
 use Rattle.tree.specs.ListLaws.{distinct-few}
 use Rattle.accepted.specs.WayLaws.{valid-nodes}
 use Rattle.accepted.specs.SubtreeLaws.{subtree-inner, subtree-tip, subtree-sound, subtree-distinct}
-use Rattle.clades.specs.Clades.{has, countTo, marked, sizeOf, exactly, over}
+use Rattle.clades.specs.Clades.{has, marked, sizeOf, exactly, over}
 use Rattle.clades.specs.Counting.{total, totalTo, weight, weightBelow, weighs}
 use Rattle.clades.specs.SumLaws.{total-append, total-most, totalTo-same, within, total-distinct, count-most, count-some, count-none, total-count}
 

@@ -162,7 +162,7 @@ pub fn is_monophyletic_in(
     Monophyly::Refused(Refusal::Size(n))
 }
 
-// The node by whose height a set of so many tips is dated that has this node: of one tip its parent, at the upper end of its branch.
+// The node by whose height a set is dated, by its size and its clade's node: of one tip the parent, at the upper end of the tip's branch.
 fn age_node(parents: &[u16], size: u32, node: usize) -> usize
     requires { ⌜ node < length (now parents) ⌝ }
     ensures { λ r. ⌜ r ≡ cond (eqb size 1) (getD (now (parents .entry)) node 0) node ⌝ }

@@ -2,47 +2,38 @@
 -- (`by-order`), since fewer numbers come before those. Assumes nothing.
 use mathlib.Core.Path.{_≡_}
 use mathlib.Core.Bool.{Bool, true, false, not, cond}
-use Prim.Native.Nat.{ℕ, zero, suc, _+_, _≤_, _<_}
+use Prim.Native.Nat.{ℕ, zero, suc, _≤_, _<_}
 use native.Mathlib.Omega.{arith}
 use native.Mathlib.Decide.{ℕ-discrete}
 use lib.Dec.{T}
+use Rattle.tree.specs.Bounded.{countTo}
 
 -- ---- how many of the first m numbers pass a test
 
--- one, where the test is passed
-one : Bool → ℕ
-one b = cond b 1 0
-
-one-le : (a b : Bool) → (T a → T b) → one a ≤ one b
-unfolding one
+one-le : (a b : Bool) → (T a → T b) → cond a 1 0 ≤ cond b 1 0
 one-le true true h = omega arith
 one-le true false h = absurd (h tt)
 one-le false b h = omega arith
 
-one-lt : (a b : Bool) → T (not a) → T b → one a < one b
-unfolding one
+one-lt : (a b : Bool) → T (not a) → T b → cond a 1 0 < cond b 1 0
 one-lt false true h k = omega arith
 one-lt true b h k = absurd h
 one-lt false false h k = absurd k
 
-count : (ℕ → Bool) → ℕ → ℕ
-count f zero = 0
-count f (suc m) = count f m + one (f m)
-
 module _ (f g : ℕ → Bool) where
   -- a test that is passed wherever another is, is passed as often
-  count-le : (m : ℕ) → ((i : ℕ) → i < m → T (f i) → T (g i)) → count f m ≤ count g m
-  unfolding count
+  count-le : (m : ℕ) → ((i : ℕ) → i < m → T (f i) → T (g i)) → countTo f m ≤ countTo g m
+  unfolding countTo
   count-le zero also = omega arith
   count-le (suc m) also = omega (arith, count-le m (λ i I. also i (omega arith)), one-le (f m) (g m) (also m (omega arith)))
 
   -- and more often, where it is passed once more
-  count-lt : (m : ℕ) → ((i : ℕ) → i < m → T (f i) → T (g i)) → (j : ℕ) → j < m → T (not (f j)) → T (g j) → count f m < count g m
-  unfolding count
+  count-lt : (m : ℕ) → ((i : ℕ) → i < m → T (f i) → T (g i)) → (j : ℕ) → j < m → T (not (f j)) → T (g j) → countTo f m < countTo g m
+  unfolding countTo
   count-lt zero also j J h k = absurd (omega arith)
   count-lt (suc m) also j J h k = pick (ℕ-discrete j m) (count-lt m (λ i I. also i (omega arith)) j)
     where
-      pick : Dec (j ≡ m) → (j < m → T (not (f j)) → T (g j) → count f m < count g m) → count f (suc m) < count g (suc m)
+      pick : Dec (j ≡ m) → (j < m → T (not (f j)) → T (g j) → countTo f m < countTo g m) → countTo f (suc m) < countTo g (suc m)
       pick (yes e) rest = omega (arith, count-le m (λ i I. also i (omega arith)), one-lt (f m) (g m) (rw (← e) h) (rw (← e) k))
       pick (no d) rest = omega (arith, rest (omega arith) h k, one-le (f m) (g m) (also m (omega arith)))
 
@@ -58,7 +49,7 @@ module _
   where
     -- how many come before k
     rank : ℕ → ℕ
-    rank k = count (λ i. before i k) n
+    rank k = countTo (λ i. before i k) n
 
     rank-lt : (j k : ℕ) → j < n → k < n → T (before j k) → rank j < rank k
     unfolding rank

@@ -188,20 +188,16 @@ fn marked(name: &[u8], a: bool, b: bool, c: bool) {
     clade(name, &F_HEIGHTS, &[a, b, c]);
 }
 
-// Tip 0, or tip 2, with tip 0 at the one height and the root at the other.
-fn single(name: &[u8], third: bool, low: f64, high: f64) {
-    if third {
-        clade(name, &[low, 0.0, 0.0, 1.0, high], &[false, false, true]);
-    } else {
-        clade(name, &[low, 0.0, 0.0, 1.0, high], &[true, false, false]);
-    }
+// Tip 0, or else tip 2, with tip 0 at the one height and the root at the other.
+fn single(name: &[u8], first: bool, low: f64, high: f64) {
+    clade(name, &[low, 0.0, 0.0, 1.0, high], &[first, false, !first]);
 }
 
 fn stems() {
-    single(b"tip 0 at a half", false, 0.5, 2.0);
-    single(b"tip 0 level with its parent", false, 1.0, 2.0);
-    single(b"tip 0 under a root at 2^43", false, 0.0, 8796093022208.0);
-    single(b"tip 2 under a root at 2^43", true, 0.0, 8796093022208.0);
+    single(b"tip 0 at a half", true, 0.5, 2.0);
+    single(b"tip 0 level with its parent", true, 1.0, 2.0);
+    single(b"tip 0 under a root at 2^43", true, 0.0, 8796093022208.0);
+    single(b"tip 2 under a root at 2^43", false, 0.0, 8796093022208.0);
 }
 
 // Tips 0 and 1, or all tips, with node 3 at the one height and the root at the other.

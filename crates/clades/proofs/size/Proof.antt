@@ -2,7 +2,8 @@
 use mathlib.Core.Path.{_≡_}
 use Prim.Native.Nat.{_-_, _≤_}
 use lib.ListN.{length}
-use Rattle.clades.specs.Clades.{countTo, marked}
+use Rattle.tree.specs.Bounded.{countTo}
+use Rattle.clades.specs.Clades.{marked}
 use Rattle.clades.proofs.WeighLaws.{sizeLaws}
 use borrow.Author.Needs.{needs}
 use Rattle.clades.proofs.size.Statement.{statement}

@@ -19,7 +19,7 @@ struct Marked {
 type Export = fn(&[u16], &[u16], &[f64], &[u8], &mut [u64]) -> u64;
 
 impl Marked {
-    /// A tree that may be damaged, and mostly a clade's tips.
+    /// A tree that may be damaged, and marks by chance, or half of the time those of a clade where it is a tree.
     fn any(chance: &mut Chance) -> Self {
         let tree = wrong_tree(chance);
         let tips = if chance.once_in(16) { chance.below(8) } else { tree.nodes().div_ceil(2) };
@@ -158,7 +158,8 @@ pub fn single_tip(chance: &mut Chance, tally: &mut Tally) -> Compared<()> {
     let mut set = Marked { tree: port_tree(&sample), members: vec![0; tips] };
     set.members[tip] = mark(chance);
     let is = holds(&rust_tree(&sample), &set.members);
-    let stem = (tips..sample.nodes()).find(|&node| [sample.pair(node).0, sample.pair(node).1].contains(&tip));
+    let is_parent = |&node: &usize| sample.pair(node).0 == tip || sample.pair(node).1 == tip;
+    let stem = (tips..sample.nodes()).find(is_parent);
     let age = stem.and_then(|stem| thousandths(sample.heights[stem])).ok_or(Refusal::Parameter(0));
     let call = set.called(chance, exports::rove_is_monophyletic)?;
     call.is(0, &answered(0, 0, 0, u64::from(is), 0)).map_err(|fault| set.told(fault))?;
