@@ -3,7 +3,7 @@
 
 usage: python3 tools/respell.py     at the top of the repository, once, after the toolchain's port.py
 
-A name in camel case (nodeHeight) becomes node_height wherever it stands. Of the names with a dash, those of definitions, fields and constructors in specs/
+A name in camel case (nodeHeight) becomes node_height wherever it stands. Of the names with a dash, those of definitions, fields, constructors and rulesets in specs/
 (after-five) get an underscore; a lemma keeps its dashes, which join the names that it is about. Functions of src/, exported names, strings, and the folders
 of proofs keep their names. Where a new name would meet another in one file, a name with a dash keeps it; a name in camel case stops the script.
 """
@@ -23,7 +23,7 @@ def antt():
 
 
 def declared():
-    """Each name that a file declares, with what it is: a type, a field, a constructor, a definition or a lemma."""
+    """Each name that a file declares, with what it is: a field, a constructor, a ruleset, a definition or a lemma."""
     for path in antt():
         inside = None
         with open(path, encoding="utf-8") as file:
@@ -34,12 +34,14 @@ def declared():
                 indent = len(line) - len(text)
                 if inside and indent <= inside[1]:
                     inside = None
-                found = re.match(r"((?:(?:pub|abbrev|unfoldable|record|data)\s+)*)([^\s:(){}]+)\s*(.*)$", text)
+                found = re.match(r"((?:(?:pub|abbrev|unfoldable|record|data|ruleset)\s+)*)([^\s:(){}]+)\s*(.*)$", text)
                 if not found or found[2] in NOT_NAMES:
                     continue
                 words = found[1].split()
                 if "record" in words or "data" in words:
                     inside = ("field" if "record" in words else "constructor", indent)
+                elif "ruleset" in words:
+                    yield found[2], "ruleset", path
                 elif found[3].startswith(":"):
                     kind = inside[0] if inside else "definition" if "abbrev" in words or "unfoldable" in words else "lemma"
                     yield found[2], kind, path

@@ -1,4 +1,4 @@
--- The ways through the reading of a tip's ages and the tests of them (`ageLaws`, `misagedLaws`, `faultLaws`). Assumes nothing.
+-- The ways through the reading of a tip's ages and the tests of them (`age_laws`, `misaged_laws`, `fault_laws`). Assumes nothing.
 use mathlib.Core.Path.{◌≡◌}
 use mathlib.Core.Bool.{Bool, true, false}
 use mathlib.Core.List.{List}
@@ -17,7 +17,7 @@ pub age-is : (minima maxima : List Float) (k : ℕ) (a b : Float) → a ≡ get_
     → record { minimum = a; maximum = b } ≡ age_of minima maxima k
 age-is minima maxima k a b ea eb = rw (ea, eb)
 
-pub ruleset ageLaws = (age-is)
+pub ruleset age_laws = (age-is)
 
 -- ---- the rule on ages
 
@@ -56,7 +56,7 @@ module _ (origin : Float) (a : TipAge) (x : Bool) (ex : x ≡ finite a.minimum) 
             unfolding misaged
             misaged-not h = rw (← ex, hx, ← ey, hy, hn, ht, ho, h)
 
-pub ruleset misagedLaws = (misaged-least, misaged-greatest, misaged-negative, misaged-turned, misaged-old, misaged-present, misaged-not)
+pub ruleset misaged_laws = (misaged-least, misaged-greatest, misaged-negative, misaged-turned, misaged-old, misaged-present, misaged-not)
 
 -- ---- the rule on present sampling, and both
 
@@ -80,4 +80,4 @@ module _ (p : FossilizedBirthDeath) (minima maxima : List Float) (k : ℕ) (a : 
   unfolding at_fault
   fault-sampling h r er = rw (← ea, ← eb, h, er)
 
-pub ruleset faultLaws = (unsampled-none, unsampled-some, fault-age, fault-sampling)
+pub ruleset fault_laws = (unsampled-none, unsampled-some, fault-age, fault-sampling)

@@ -1,5 +1,5 @@
--- The ways through the lengths of a table (`sizedLaws`), its tips (`tableLaws`), the call on a table by itself (`countLaws`, `validateLaws`), and the checks of a
--- call on a tree with a table (`checkLaws`). Assumes nothing.
+-- The ways through the lengths of a table (`sized_laws`), its tips (`table_laws`), the call on a table by itself (`count_laws`, `validate_laws`), and the checks of a
+-- call on a tree with a table (`check_laws`). Assumes nothing.
 use mathlib.Core.Path.{◌≡◌}
 use mathlib.Core.Bool.{Bool, true, false, ◌&&◌}
 use mathlib.Core.List.{List}
@@ -28,7 +28,7 @@ module _ (a b tips : ℕ) where
   pub sized-not : (a ≡ tips → ⊥) → eqb a tips ≡ (eqb a tips && eqb b tips)
   sized-not h = rw (ne_eqb a tips h)
 
-pub ruleset sizedLaws = (sized-both, sized-not)
+pub ruleset sized_laws = (sized-both, sized-not)
 
 -- ---- the tips
 
@@ -44,7 +44,7 @@ module _ (p : FossilizedBirthDeath) (minima maxima : List Float) (tips : ℕ) (l
     pub table-passed : limits ≡ true → Verdicts.Fine ≡ table_then p minima maxima tips limits
     table-passed h = rw (← e, y, h)
 
-pub ruleset tableLaws = (table-refused, table-limits, table-passed)
+pub ruleset table_laws = (table-refused, table-limits, table-passed)
 
 -- ---- the table by itself
 
@@ -59,7 +59,7 @@ module _ (n : ℕ) where
     pub counts-odd : n ≤ 4095 → eqb (n % 2) 1 ≡ counts n
     counts-odd k = rw (le-leb 3 n h, le-leb n 4095 k)
 
-pub ruleset countLaws = (counts-few, counts-many, counts-odd)
+pub ruleset count_laws = (counts-few, counts-many, counts-odd)
 
 -- a is whether n is a number of nodes
 module _ (p : FossilizedBirthDeath) (minima maxima : List Float) (n : ℕ) (a : Bool) (ea : a ≡ counts n) where
@@ -77,7 +77,7 @@ module _ (p : FossilizedBirthDeath) (minima maxima : List Float) (n : ℕ) (a : 
     unfolding table_call
     validate-table h f ef r e = rw (← ea, ha, ← em, ← eb, h, ← ef) e
 
-pub ruleset validateLaws = (validate-count, validate-size, validate-table)
+pub ruleset validate_laws = (validate-count, validate-size, validate-table)
 
 -- ---- a tree with a table
 
@@ -97,4 +97,4 @@ module _ (p : FossilizedBirthDeath) (minima maxima : List Float) (pairs parents 
     pub check-table : v ≡ Verdicts.Fine → (r : Verdict) → r ≡ table_then p minima maxima m limits → r ≡ table_checked p minima maxima t limits
     check-table y r e = rw (← em, ← eb, h, ← ev, y) e
 
-pub ruleset checkLaws = (check-size, check-tree, check-table)
+pub ruleset check_laws = (check-size, check-tree, check-table)

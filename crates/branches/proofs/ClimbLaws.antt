@@ -33,4 +33,4 @@ module _ (ps : List ℕ) (hs : List Float) (root : ℕ) (x : Float) (k n at left
       unfolding climb parent height
       climb-stops y = rw (inv, down-suc left L, ne_eqb at root e, ← f, ← g, y)
 
-pub ruleset climbLaws = (climb-spent, climb-root, climb-goes, climb-stops)
+pub ruleset climb_laws = (climb-spent, climb-root, climb-goes, climb-stops)

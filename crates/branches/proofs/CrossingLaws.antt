@@ -1,5 +1,5 @@
--- The ways through the code that meets a branch (`meetLaws`), that looks for branches (`crossingLaws`), and that counts them or
--- picks one (`countLaws`), with what the code asks of its numbers. Assumes nothing.
+-- The ways through the code that meets a branch (`meet_laws`), that looks for branches (`crossing_laws`), and that counts them or
+-- picks one (`count_laws`), with what the code asks of its numbers. Assumes nothing.
 use mathlib.Core.Path.{◌≡◌, sym, ap, ◌∙◌}
 use mathlib.Core.Bool.{Bool, true, false}
 use mathlib.Core.List.{List, []}
@@ -37,7 +37,7 @@ module _ (index k w : ℕ) (g : Ready 65534 k w) where
       rw (ne_eqb (w / 65536 % 65536) index e)
       (record { same = λ i. record { found = a i; met = b i; left = c i }; small = record { found = omega arith; sum = omega arith } })
 
-pub ruleset meetLaws = (meet_one, meet-more)
+pub ruleset meet_laws = (meet_one, meet-more)
 
 -- ---- those under a node
 
@@ -115,7 +115,7 @@ module _ (pairs : List ℕ) (hs : List Float) (x : Float) (index k w d : ℕ) (g
               small = R.small;
             })
 
-pub ruleset crossingLaws = (ready-meet, ready-first, ready-second, crossing-spent, crossing-flat, crossing-met, crossing-tip, crossing-both)
+pub ruleset crossing_laws = (ready-meet, ready-first, ready-second, crossing-spent, crossing-flat, crossing-met, crossing-tip, crossing-both)
 
 -- ---- all of them, or one
 
@@ -142,4 +142,4 @@ module _ (pairs : List ℕ) (hs : List Float) (x : Float) (k w : ℕ) (N : nodes
   unfolding picked
   branch-is index h = ap (λ (u : Walk). u.found) h.same ∙ rw (sets-out (nodes_of pairs) N)
 
-pub ruleset countLaws = (ready-outset, count-is, branch-is)
+pub ruleset count_laws = (ready-outset, count-is, branch-is)

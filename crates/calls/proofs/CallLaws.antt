@@ -1,4 +1,4 @@
--- The ways through the check before a move (`checkLaws`) and through its answer (`answerLaws`). Assumes nothing.
+-- The ways through the check before a move (`check_laws`) and through its answer (`answer_laws`). Assumes nothing.
 use mathlib.Core.Path.{◌≡◌}
 use mathlib.Core.Bool.{Bool, true, false}
 use Prim.Native.Nat.{ℕ, ◌-◌}
@@ -28,7 +28,7 @@ module _ (limits : Bool) (allowance : ℕ) where
     pub check-passed : b ≡ true → Verdicts.Fine ≡ limited limits allowance
     check-passed f = rw (h, ← eb, f)
 
-pub ruleset checkLaws = (check-limits, check-allowance, check-passed)
+pub ruleset check_laws = (check-limits, check-allowance, check-passed)
 
 -- ---- the answer
 
@@ -56,4 +56,4 @@ module _ (turned : Turned) (s : Supply) (g : Random) (allowance : ℕ) where
     unfolding answered_of
     answer-outside y e = rw (y, e)
 
-pub ruleset answerLaws = (answer-moved, answer-declined, answer-spent, answer-not-finite, answer-outside)
+pub ruleset answer_laws = (answer-moved, answer-declined, answer-spent, answer-not-finite, answer-outside)

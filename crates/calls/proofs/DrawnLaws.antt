@@ -1,5 +1,5 @@
--- The ways through the draws that several moves make: a node other than the root (`nonRootLaws`), an internal node (`internalLaws`), a
--- height in an interval (`intervalLaws`) and the factor of a scale (`scalerLaws`). Assumes nothing.
+-- The ways through the draws that several moves make: a node other than the root (`non_root_laws`), an internal node (`internal_laws`), a
+-- height in an interval (`interval_laws`) and the factor of a scale (`scaler_laws`). Assumes nothing.
 use mathlib.Core.Path.{◌≡◌, refl, sym, ap, ◌∙◌}
 use mathlib.Core.Bool.{Bool, true, false, not}
 use Prim.Native.Nat.{ℕ, ◌+◌, ◌-◌, ◌/◌, ◌^◌, ◌<◌}
@@ -30,7 +30,7 @@ module _ (n root : ℕ) where
   unfolding non_root
   non-root-is s r e = e ∙ ap (drawn_number s) (other-plain n root s)
 
-pub ruleset nonRootLaws = (non-root-fits, non-root-is)
+pub ruleset non_root_laws = (non-root-fits, non-root-is)
 
 -- ---- an internal node
 
@@ -62,7 +62,7 @@ module _ (n : ℕ) (s : Supply) (r : DrawnNumber) (e : r ≡ drawn_number s (pic
       let c = h.fits in
       record { fits = omega arith }
 
-pub ruleset internalLaws = (one-half, internal-drawn, internal-spent, internal-fits)
+pub ruleset internal_laws = (one-half, internal-drawn, internal-spent, internal-fits)
 
 -- ---- a height in an interval
 
@@ -82,7 +82,7 @@ module _ (lower upper u : Float) (b : Bool) (e : b ≡ within lower (add binary6
   unfolding interpolated
   interval-outside h = rw (← e, h)
 
-pub ruleset intervalLaws = (within_low, within-not-low, interval-inside, interval-outside)
+pub ruleset interval_laws = (within_low, within-not-low, interval-inside, interval-outside)
 
 -- ---- the factor of a scale
 
@@ -94,4 +94,4 @@ pub tuning-read : T (not (nan_bits binary64 0x3e45_798e_e230_8c3a))
 unfolding nan_bits
 tuning-read = tt
 
-pub ruleset scalerLaws = (scaler-is, tuning-read)
+pub ruleset scaler_laws = (scaler-is, tuning-read)

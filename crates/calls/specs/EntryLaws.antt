@@ -1,7 +1,7 @@
 -- For the entry points of the moves. A checked one validates the tree and goes on as the unvalidated one of its name, which tests the limits,
 -- makes its turn and answers. In order: what a check that passed has passed (`passed`); a tree that was validated (`tree-refused`, and for tree
--- moves `entryLaws`); an accepted tree, whose limits were tested (`accepted-checked`, `limits-refused`, `limits-passed`); and for tree moves any slices,
--- whose limits were tested (`unvalidatedLaws`). Assumes nothing.
+-- moves `entry_laws`); an accepted tree, whose limits were tested (`accepted-checked`, `limits-refused`, `limits-passed`); and for tree moves any slices,
+-- whose limits were tested (`unvalidated_laws`). Assumes nothing.
 use Rattle.std.specs.Prelude.{◌≡◌, Bool, true, false, ◌&&◌, cond, List, ℕ, Float}
 use Rattle.std.proofs.Math.Path.{refl}
 use Rattle.std.proofs.Common.{sym, ap, ◌∙◌}
@@ -73,7 +73,7 @@ module _ (pairs parents : List ℕ) (heights : List Float) (root : ℕ) (v : Ver
         → c ≡ tree_call limits program (tree_of pairs parents heights root) g allowance
     entry_done y c u = u.decided (tree-accepted y)
 
-pub ruleset entryLaws = (entry-refused, entry_done)
+pub ruleset entry_laws = (entry-refused, entry_done)
 
 -- ---- an accepted tree
 
@@ -147,4 +147,4 @@ module _ (pairs parents : List ℕ) (heights : List Float) (root : ℕ) (limits 
         harmless = rw er (turn-harmless limits lent g allowance v e y (after turn ps qs hs) f.mild);
       }
 
-pub ruleset unvalidatedLaws = (unvalidated-refused, unvalidated-done)
+pub ruleset unvalidated_laws = (unvalidated-refused, unvalidated-done)

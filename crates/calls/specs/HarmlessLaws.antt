@@ -1,5 +1,5 @@
 -- For the code of unvalidated calls on any slices. In order: drawing steps a supply (`number-stepped` and its like); the ways in which a turn ends
--- (`mildLaws`), and a turn from a later supply (`mild-later`); and a call from its turn (`refused-harmless`, `turn-harmless`). Assumes nothing.
+-- (`mild_laws`), and a turn from a later supply (`mild-later`); and a call from its turn (`refused-harmless`, `turn-harmless`). Assumes nothing.
 use Rattle.std.specs.Prelude.{◌≡◌, refl, Bool, true, false, ◌&&◌, cond, List, ℕ, ◌-◌, length, Float}
 use Rattle.std.proofs.Common.{sym, ◌∙◌, subst, true≢false, arith}
 use Rattle.std.proofs.Math.Path.{ap}
@@ -93,7 +93,7 @@ module _ (t : Tree) (s u : Supply) (program : Draw (Reply Outcome)) where
       → length a.heights ≡ length t.heights → Mild t u a
   run-mild a e p q h = rw e (ran-mild (run program u) refl (record { pairs = rw e at p; parents = rw e at q; heights = rw e at h }))
 
-pub ruleset mildLaws = (stepped-refl, number-stepped, real-stepped, side-stepped, mild-moved, mild-declined, mild-spent, mild-not-finite, mild-outside, mild-later)
+pub ruleset mild_laws = (stepped-refl, number-stepped, real-stepped, side-stepped, mild-moved, mild-declined, mild-spent, mild-not-finite, mild-outside, mild-later)
 
 -- ---- a call from its turn
 

@@ -1,5 +1,5 @@
--- The ways through the code that looks for a node with lent places (`seekLaws`) and with places of its own (`partLaws`), through the choice of an age's
--- node (`nodeLaws`), and through the two entry points (`entryLaws`, `monoLaws`, `ageLaws`). Assumes nothing.
+-- The ways through the code that looks for a node with lent places (`seek_laws`) and with places of its own (`part_laws`), through the choice of an age's
+-- node (`node_laws`), and through the two entry points (`entry_laws`, `mono_laws`, `age_laws`). Assumes nothing.
 use mathlib.Core.Path.{◌≡◌, sym, ap, ◌∙◌, subst}
 use mathlib.Core.Bool.{Bool, true, cond}
 use mathlib.Core.List.{List}
@@ -72,9 +72,9 @@ module _ (pairs : List ℕ) (root : ℕ) (members : List Bool) (others size : �
     pub part-found : (r : ℕ) → r ≡ first_weighing (length (take (length pairs / 2) l)) pairs root members others → r ≡ first_weighing (length pairs / 2) pairs root members others
     part-found r f = f ∙ ap (λ (n : ℕ). first_weighing n pairs root members others) (part-long s l m)
 
-pub ruleset seekLaws = (seek_finds, seek_found)
+pub ruleset seek_laws = (seek_finds, seek_found)
 
-pub ruleset partLaws = (part-fits, part-long, part-places, part-found)
+pub ruleset part_laws = (part-fits, part-long, part-places, part-found)
 
 -- ---- the entry points
 
@@ -165,10 +165,10 @@ module _ (parents : List ℕ) (size node : ℕ) where
   pub node-of-more : (size ≡ 1 → ⊥) → node ≡ cond (eqb size 1) (get_or parents node 0) node
   node-of-more d = rw (ne_eqb size 1 d)
 
-pub ruleset nodeLaws = (wide16, node-of-one, node-of-more)
+pub ruleset node_laws = (wide16, node-of-one, node-of-more)
 
-pub ruleset entryLaws = (entry-few, entry-seeks)
+pub ruleset entry_laws = (entry-few, entry-seeks)
 
-pub ruleset monoLaws = (mono-size, mono-refused, mono-is)
+pub ruleset mono_laws = (mono-size, mono-refused, mono-is)
 
-pub ruleset ageLaws = (age-size, age-refused, age-none, clade-place, age-place, age-bytes, age-is, age-outside)
+pub ruleset age_laws = (age-size, age-refused, age-none, clade-place, age-place, age-bytes, age-is, age-outside)

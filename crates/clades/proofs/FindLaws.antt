@@ -1,4 +1,4 @@
--- The search through postorder for a node of the set's weight (`findLaws`). Assumes nothing.
+-- The search through postorder for a node of the set's weight (`find_laws`). Assumes nothing.
 use mathlib.Core.Path.{◌≡◌, refl, sym, ◌∙◌, subst}
 use mathlib.Core.Bool.{Bool}
 use mathlib.Core.List.{List, [], ◌∷◌}
@@ -148,4 +148,4 @@ module _ (pairs : List ℕ) (members : List Bool) (order weights : List ℕ) (ot
     unfolding first_or
     find-end h = sym (g.passed ∙ rw (drop_all order at h))
 
-pub ruleset findLaws = (find-start, find-weighs, find-node, find-place, find-found, find-next, find-end, wide16)
+pub ruleset find_laws = (find-start, find-weighs, find-node, find-place, find-found, find-next, find-end, wide16)

@@ -1,4 +1,4 @@
--- The ways through the code that weighs a tip (`weightLaws`), counts a set (`sizeLaws`) and weighs a node (`weighLaws`). Assumes nothing.
+-- The ways through the code that weighs a tip (`weight_laws`), counts a set (`size_laws`) and weighs a node (`weigh_laws`). Assumes nothing.
 use mathlib.Core.Path.{◌≡◌, refl}
 use mathlib.Core.Bool.{Bool, true, false}
 use mathlib.Core.List.{List}
@@ -27,7 +27,7 @@ module _ (members : List Bool) (others k : ℕ) (h : k < length members) where
   unfolding weight
   tip-out e = rw (lt-ltb k (length members) h, e)
 
-pub ruleset weightLaws = (tip-in, tip-out)
+pub ruleset weight_laws = (tip-in, tip-out)
 
 -- ---- a set
 
@@ -51,7 +51,7 @@ module _ (members : List Bool) where
     unfolding size_of
     size-end h k = let z : length members ≡ m = omega arith in rw z i
 
-pub ruleset sizeLaws = (size-start, size_fits, size_step, size-end)
+pub ruleset size_laws = (size-start, size_fits, size_step, size-end)
 
 -- ---- a node
 
@@ -86,7 +86,7 @@ module _ (pairs : List ℕ) (members : List Bool) (weights : List ℕ) (others k
 pub weigh-sum : (x y : ℕ) → x ≤ heaviest → y ≤ heaviest → Fits w32 (x + y)
 weigh-sum x y a b = record { fits = omega arith }
 
-pub ruleset weighLaws = (
+pub ruleset weigh_laws = (
   weigh-tip,
   weigh-inner,
   weigh-first,

@@ -1,5 +1,5 @@
--- The ways through the scales of a clock: a value that stays positive (`positiveLaws`), the limits (`timedLaws`), ClockSigmaScale (`sigmaLaws`), a rate by its
--- index (`rateScaleLaws`), and BranchRateScale (`branchLaws`). Assumes nothing.
+-- The ways through the scales of a clock: a value that stays positive (`positive_laws`), the limits (`timed_laws`), ClockSigmaScale (`sigma_laws`), a rate by its
+-- index (`rate_scale_laws`), and BranchRateScale (`branch_laws`). Assumes nothing.
 use mathlib.Core.Path.{◌≡◌, refl, sym, ap, ◌∙◌}
 use mathlib.Core.Bool.{Bool, true, false, ◌&&◌, cond}
 use mathlib.Core.List.{List}
@@ -57,7 +57,7 @@ module _ (limits : Bool) (value tuning : Float) (g : Random) (allowance : ℕ) (
         settled-call limits (positively value tuning) value g allowance holds b (mul binary64 value f) f u.supply
         (rw eb (factored-got tuning (mul binary64 value) positive (supply_of g allowance) u e k f ef)) r er
 
-pub ruleset positiveLaws = (positive-limits, call-left, positive-spent, positive-settled)
+pub ruleset positive_laws = (positive-limits, call-left, positive-spent, positive-settled)
 
 -- ---- the limits
 
@@ -68,7 +68,7 @@ module _ (sigma : Float) (rates : List Float) (tuning : Float) (a : Bool) (ea : 
   pub timed-clock : a ≡ true → (b : Bool) → b ≡ clock_fits sigma rates → b ≡ (tuned tuning && clock_fits sigma rates)
   timed-clock h b eb = rw (← ea, h, eb)
 
-pub ruleset timedLaws = (timed-tuning, timed-clock)
+pub ruleset timed_laws = (timed-tuning, timed-clock)
 
 -- ---- ClockSigmaScale
 
@@ -86,7 +86,7 @@ module _ (sigma : Optional) (rates : List Float) (tuning : Float) (g : Random) (
   sigma-given x e l el r er =
       rw (e, ← el) (ap (put_in Given) er ∙ sym (value-part Given l (positively x tuning) x g allowance))
 
-pub ruleset sigmaLaws = (sigma_missing, sigma-given)
+pub ruleset sigma_laws = (sigma_missing, sigma-given)
 
 -- ---- a rate by its index
 
@@ -152,7 +152,7 @@ module _ (limits : Bool) (rates : List Float) (tuning : Float) (g : Random) (all
                 → proposed r.proposal r.random rates ≡ value_call limits (branch_rate_of rates tuning) rates g allowance
             rate-declined h r er = rw er (value-declined limits (branch_rate_of rates tuning) rates g allowance passes u.supply (rw h at ran))
 
-pub ruleset rateScaleLaws = (rate-limits, index_in, rate_spent, rate-spent-later, rate-left, rate-scaled, rate-declined)
+pub ruleset rate_scale_laws = (rate-limits, index_in, rate_spent, rate-spent-later, rate-left, rate-scaled, rate-declined)
 
 -- ---- BranchRateScale
 
@@ -169,4 +169,4 @@ module _ (sigma : Optional) (rates : List Float) (tuning : Float) (g : Random) (
   unfolding branch_rate clock_limits
   branch-given x e l el r after er = rw (e, ← el) er
 
-pub ruleset branchLaws = (branch-missing, branch-given)
+pub ruleset branch_laws = (branch-missing, branch-given)

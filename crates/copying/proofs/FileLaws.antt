@@ -53,7 +53,7 @@ module _ (s ps₀ ps : List ℕ) (hs₀ hs : List Float) (r : FileRead) (e : fil
         let q : take n hs ≡ t.heights = ap (take n) (held.shown.heights_held b) ∙ take_at t.heights _ n (held.shown.nodes ∙ sym en) in
         rw held.is (h ∙ (λ i. delivered out (tree_copy (new_tree (p i) (q i)))))
 
-pub ruleset readLaws = (file-wrong, file-large, file-tree)
+pub ruleset read_laws = (file-wrong, file-large, file-tree)
 
 -- the parts of the room that a tree of n nodes takes
 pub parts-each : (n : ℕ) (ps qs : List ℕ) → n + n ≤ length ps → n ≤ length qs → length (take n qs) ≡ nodes_of (take (n + n) ps)
@@ -73,4 +73,4 @@ module _ (limit : ℕ) (s out : List ℕ) (d : Delivery) where
   unfolding file_copy
   file-read g h = rw (le-ltb limit (length s) g) h
 
-pub ruleset fileLaws = (file-long, file-read)
+pub ruleset file_laws = (file-long, file-read)

@@ -36,7 +36,7 @@ module _ (r : Copied) (out : List ℕ) where
   pub told-room : r ≡ Room → delivery 0 out ≡ handed r out
   told-room y = rw y
 
-pub ruleset toldLaws = (told-bytes, told-refused, told-room)
+pub ruleset told_laws = (told-bytes, told-refused, told-room)
 
 handed-placed : (out s : List ℕ) → handed (placed out s).answer (placed out s).out ≡ delivered out s
 unfolding placed delivered
@@ -81,4 +81,4 @@ module _ (pairs parents ps : List ℕ) (heights : List Float) (each : length par
     unfolding tree_copy
     tree-made root y h = rw (new-made pairs parents ps heights each r e root y) h
 
-pub ruleset treeLaws = (new-made, tree-refused, tree-made)
+pub ruleset tree_laws = (new-made, tree-refused, tree-made)

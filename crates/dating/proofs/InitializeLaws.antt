@@ -1,5 +1,5 @@
--- The ways through the new heights: the middle of a tip's ages, the oldest tip and the factor (`middleLaws`, `oldestLaws`), a node's new height
--- (`initialLaws`), the lowest that is not finite (`lowestLaws`), and the writing of all (`setLaws`). Assumes nothing.
+-- The ways through the new heights: the middle of a tip's ages, the oldest tip and the factor (`middle_laws`, `oldest_laws`), a node's new height
+-- (`initial_laws`), the lowest that is not finite (`lowest_laws`), and the writing of all (`set_laws`). Assumes nothing.
 use mathlib.Core.Path.{◌≡◌, refl, sym, ap, ◌∙◌}
 use mathlib.Core.Bool.{Bool, true, false}
 use mathlib.Core.List.{List, []}
@@ -33,7 +33,7 @@ pub stretch-is : (origin old top : Float)
 unfolding stretch
 stretch-is origin old top = refl
 
-pub ruleset middleLaws = (middle-is, stretch-is)
+pub ruleset middle_laws = (middle-is, stretch-is)
 
 -- ---- the oldest tip
 
@@ -52,7 +52,7 @@ module _ (minima maxima : List Float) where
     pub oldest-end : (tips : ℕ) → k ≤ tips → tips ≤ k → old ≡ oldest minima maxima tips
     oldest-end tips l u = let z : k ≡ tips = omega arith in i ∙ ap (oldest minima maxima) z
 
-pub ruleset oldestLaws = (oldest-start, oldest-step, oldest-end)
+pub ruleset oldest_laws = (oldest-start, oldest-step, oldest-end)
 
 -- ---- a node's new height
 
@@ -67,7 +67,7 @@ module _ (n : ℕ) (minima maxima : List Float) (old factor : Float) (k : ℕ) (
   unfolding initial_height
   initial-tip y a ea r er = rw (← eb, y, er, ea)
 
-pub ruleset initialLaws = (initial-inner, initial-tip)
+pub ruleset initial_laws = (initial-inner, initial-tip)
 
 -- ---- the lowest that is not finite
 
@@ -95,7 +95,7 @@ module _ (hs : List Float) (minima maxima : List Float) (old factor : Float) whe
         go : (n : ℕ) → k ≤ n → n ≤ k → n ≡ least over n
         go n l u = let z : n ≡ k = omega arith in rw z (sym i)
 
-pub ruleset lowestLaws = (lowest_start, lowest_step, lowest-stop, lowest-end)
+pub ruleset lowest_laws = (lowest_start, lowest_step, lowest-stop, lowest-end)
 
 -- ---- the writing of all
 
@@ -132,4 +132,4 @@ module _ (hs₀ minima maxima : List Float) (old factor : Float) where
         go : (n : ℕ) → k ≤ n → n ≤ k → initial_to s (kin_in [] hs₀) k ≡ initial_to s (kin_in [] hs₀) n
         go n l u = let z : k ≡ n = omega arith in ap (initial_to s (kin_in [] hs₀)) z
 
-pub ruleset setLaws = (set-start, set-step, set-end)
+pub ruleset set_laws = (set-start, set-step, set-end)

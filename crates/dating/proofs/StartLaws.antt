@@ -1,5 +1,5 @@
--- The ways through the limits of `initialize` (`limitLaws`), through what it does past its checks (`startLaws`), and through the call
--- (`initializeLaws`). Assumes nothing.
+-- The ways through the limits of `initialize` (`limit_laws`), through what it does past its checks (`start_laws`), and through the call
+-- (`initialize_laws`). Assumes nothing.
 use mathlib.Core.Path.{◌≡◌, sym, ◌∙◌}
 use mathlib.Core.Bool.{Bool, true, false}
 use mathlib.Core.List.{List, []}
@@ -43,7 +43,7 @@ module _ (p : FossilizedBirthDeath) (minima maxima : List Float) (pairs : List �
     unfolding start_fits height
     limit-origin l m em old eo = rw (← ef, h, ← et, l, ← em, eo)
 
-pub ruleset limitLaws = (limit-process, limit-root, limit-origin)
+pub ruleset limit_laws = (limit-process, limit-root, limit-origin)
 
 -- ---- past the checks
 
@@ -63,7 +63,7 @@ module _ (hs minima maxima : List Float) (root : ℕ) (origin : Float) (m : ℕ)
   unfolding all_finite
   start-done l new e = rw (same, ← ek, le-ltb k (length hs) l, e)
 
-pub ruleset startLaws = (start-not-finite, start-done)
+pub ruleset start_laws = (start-not-finite, start-done)
 
 -- ---- the call
 
@@ -92,4 +92,4 @@ module _ (p : FossilizedBirthDeath) (minima maxima : List Float) (pairs parents 
       let whole = initial-whole (start_of minima maxima p.origin t) t (nodes_of pairs) in
       rw (← fits, ← u, y, whole, ← long) e
 
-pub ruleset initializeLaws = (initialize-refused, initialize-done)
+pub ruleset initialize_laws = (initialize-refused, initialize-done)

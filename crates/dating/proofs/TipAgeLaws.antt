@@ -1,5 +1,5 @@
--- The ways through TipAge: the interval that is left to a tip (`intervalLaws`), a height for the tip (`ageTipLaws`), the turn (`tipAgeLaws`), the
--- limits (`limitedLaws`), and the call (`proposeLaws`). Assumes nothing.
+-- The ways through TipAge: the interval that is left to a tip (`interval_laws`), a height for the tip (`age_tip_laws`), the turn (`tip_age_laws`), the
+-- limits (`limited_laws`), and the call (`propose_laws`). Assumes nothing.
 use mathlib.Core.Path.{◌≡◌}
 use mathlib.Core.Bool.{Bool, true, false, ◌&&◌}
 use mathlib.Core.List.{List}
@@ -43,7 +43,7 @@ use Rattle.dating.specs.Given.{left_to}
 pub interval-is : (a : TipAge) (above x : Float) → x ≡ min_of a.maximum above → record { minimum = a.minimum; maximum = x } ≡ left_to a above
 interval-is a above x e = rw e
 
-pub ruleset intervalLaws = (interval-is)
+pub ruleset interval_laws = (interval-is)
 
 -- ---- a height for tip k
 
@@ -85,7 +85,7 @@ module _ (pairs parents : List ℕ) (hs : List Float) (root k : ℕ) (a : TipAge
       unfolding ageing turn_of tip_age_declines set_height
       age-moved x q new w = rw (← greatest, ← least, h, height-inside k l.minimum l.maximum make between u e f y ey x q, w)
 
-pub ruleset ageTipLaws = (age-declined, age_spent, age-outside, age-moved)
+pub ruleset age_tip_laws = (age-declined, age_spent, age-outside, age-moved)
 
 -- ---- the turn
 
@@ -109,7 +109,7 @@ module _ (minima maxima : List Float) (pairs parents : List ℕ) (hs : List Floa
   unfolding tip_age
   turn-aged f a ea r new er = rw (er pairs, ea, draw-got _ _ s d.value d.supply (number-got s d _ drawn f))
 
-pub ruleset tipAgeLaws = (turn-spent, turn-aged)
+pub ruleset tip_age_laws = (turn-spent, turn-aged)
 
 -- ---- the limits and the call
 
@@ -121,7 +121,7 @@ module _ (p : FossilizedBirthDeath) (allowance : ℕ) (f : Bool) (ef : f ≡ pro
   pub limited-allowance : f ≡ true → (b : Bool) → b ≡ allowed allowance → b ≡ (process_finite p && allowed allowance)
   limited-allowance h b eb = rw (← ef, h, eb)
 
-pub ruleset limitedLaws = (limited-process, limited-allowance)
+pub ruleset limited_laws = (limited-process, limited-allowance)
 
 -- v is what the checks say
 module _ (p : FossilizedBirthDeath) (minima maxima : List Float) (pairs parents : List ℕ) (hs : List Float) (root : ℕ) (g : Random) (allowance : ℕ) (limits : Bool)
@@ -145,4 +145,4 @@ module _ (p : FossilizedBirthDeath) (minima maxima : List Float) (pairs parents 
   unfolding tip_age_call
   propose-done y turn new e r er = rw (← same, y) (answered-run tree g allowance turn pairs parents new (tip_age minima maxima tree) e r er)
 
-pub ruleset proposeLaws = (propose-refused, propose-done)
+pub ruleset propose_laws = (propose-refused, propose-done)

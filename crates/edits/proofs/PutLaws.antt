@@ -28,4 +28,4 @@ module _ (pairs parents : List ℕ) (root x c : ℕ) (s : Takes pairs parents x 
   pub put-nowhere : length parents ≤ c → bare pairs parents root ≡ put (nodes_of pairs) (bare pairs parents root) x c
   put-nowhere h = absurd (omega arith)
 
-pub ruleset putLaws = (put-side, put-top, put-nowhere)
+pub ruleset put_laws = (put-side, put-top, put-nowhere)

@@ -46,4 +46,4 @@ module _ (xs : List ℕ) (i : ℕ) (h : (j : ℕ) → Fits w16 (get_or xs j 0)) 
   pub next_fits : Fits w64 (get_or xs i 0 + get_or xs i 0 + 1)
   next_fits = let p : Fits w16 (get_or xs i 0) = h i in Fits-of_lt (omega arith)
 
-pub ruleset slotOfLaws = (wide, root-at, first-at, second_at, no-pair, no_node, pair_fits, next_fits)
+pub ruleset slot_of_laws = (wide, root-at, first-at, second_at, no-pair, no_node, pair_fits, next_fits)

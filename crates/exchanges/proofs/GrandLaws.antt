@@ -1,5 +1,5 @@
--- The ways through the grandparents of NarrowExchange: the test (`isGrandLaws`), how many there are (`grandsLaws`), one that is drawn
--- (`grandparentLaws`), its children (`kinLaws`), and what is declined (`narrowDeclinesLaws`). Assumes nothing.
+-- The ways through the grandparents of NarrowExchange: the test (`is_grand_laws`), how many there are (`grands_laws`), one that is drawn
+-- (`grandparent_laws`), its children (`kin_laws`), and what is declined (`narrow_declines_laws`). Assumes nothing.
 use mathlib.Core.Path.{◌≡◌, refl, sym, ap, ◌∙◌}
 use mathlib.Core.Bool.{Bool, true, false, cond}
 use mathlib.Core.List.{List}
@@ -38,7 +38,7 @@ module _ (n : ℕ) (pairs : List ℕ) (k : ℕ) (a : Bool) (ea : a ≡ inner n k
     unfolding grand
     grand-second f y ey d ed = rw (← ea, h, ← ex, ← eb, f, ← ey, ← ed)
 
-pub ruleset isGrandLaws = (grand-tip, grand-first, grand-second)
+pub ruleset is_grand_laws = (grand-tip, grand-first, grand-second)
 
 -- ---- how many there are
 
@@ -77,7 +77,7 @@ module _ (n : ℕ) (t : Tree) where
     pub grands-all : k ≤ n → n ≤ k → count ≡ grands n t n
     grands-all f g = let z : k ≡ n = omega arith in e ∙ ap (grands n t) z
 
-pub ruleset grandsLaws = (grands-tips, grands-fit, grands-more, grands-same, grands-all)
+pub ruleset grands_laws = (grands-tips, grands-fit, grands-more, grands-same, grands-all)
 
 -- ---- one that is drawn
 
@@ -99,7 +99,7 @@ module _ (n : ℕ) (s : Supply) (r : DrawnNumber) (e : r ≡ drawn_number s (pic
   pub grandparent-fewer : r.ok ≡ true → r.supply.left < s.left
   grandparent-fewer h = redraw-fewer (inner n) (internal n) s r e h
 
-pub ruleset grandparentLaws = (grandparent-spent, grandparent-taken, grandparent-passed, grandparent-fewer)
+pub ruleset grandparent_laws = (grandparent-spent, grandparent-taken, grandparent-passed, grandparent-fewer)
 
 -- ---- its children
 
@@ -130,7 +130,7 @@ module _ (pairs : List ℕ) (hs : List Float) (g : ℕ) where
     unfolding side_in
     side-second h e = rw (h, ← ek) e
 
-pub ruleset kinLaws = (taller-second, taller-first, uncle-first, uncle-second, side-first, side-second)
+pub ruleset kin_laws = (taller-second, taller-first, uncle-first, uncle-second, side-first, side-second)
 
 -- ---- what is declined
 
@@ -148,4 +148,4 @@ module _ (pairs : List ℕ) (hs : List Float) (n g : ℕ) (o : Bool) (eo : o ≡
     unfolding narrow_declines taller_in
     declines-not f = rw (← eo, h, ← ek, ← eb, f)
 
-pub ruleset narrowDeclinesLaws = (declines-one, declines-tip, declines-not)
+pub ruleset narrow_declines_laws = (declines-one, declines-tip, declines-not)

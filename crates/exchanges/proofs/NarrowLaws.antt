@@ -1,5 +1,5 @@
--- The ways through NarrowExchange: how a choice is made (`narrowLaws`), what is done under a grandparent (`underLaws`), and the turn
--- (`narrowTurnLaws`). Assumes nothing.
+-- The ways through NarrowExchange: how a choice is made (`narrow_laws`), what is done under a grandparent (`under_laws`), and the turn
+-- (`narrow_turn_laws`). Assumes nothing.
 use mathlib.Core.Path.{◌≡◌, refl, sym, ◌∙◌}
 use mathlib.Core.Bool.{Bool, true, false, not, ◌||◌, cond, true≢false}
 use mathlib.Core.List.{List}
@@ -108,7 +108,7 @@ module _ (pairs parents : List ℕ) (heights : List Float) (root g : ℕ) (side 
   narrow-moved x ex w p q r f y ey s =
       rw (← whole p q r (f (narrow-exchanges w)), ex, ey, grands-pairs (nodes_of pairs) t (nodes_of pairs), grands-pairs (nodes_of pairs) (tree_of p q heights r) (nodes_of pairs))
 
-pub ruleset narrowLaws = (narrow-moved)
+pub ruleset narrow_laws = (narrow-moved)
 
 -- ---- what the turn leaves, and what it leaves from the supply u on, g being drawn
 
@@ -144,7 +144,7 @@ module _ (pairs parents : List ℕ) (heights : List Float) (root g : ℕ) (b : B
       unfolding narrow_under narrow_turn turn_of run
       under_moved d w r p q f = rw (declines, y, bind-got coin _ u c.value c.supply (side-got u c _ ec d)) (f (under-narrows w))
 
-pub ruleset underLaws = (under-declined, under-spent, under_moved)
+pub ruleset under_laws = (under-declined, under-spent, under_moved)
 
 -- ---- the turn
 
@@ -184,4 +184,4 @@ module _ (pairs parents : List ℕ) (heights : List Float) (root : ℕ) (s : Sup
       unfolding narrow_exchange grandparent narrow_under
       turn-done v x f = rw (← eo, m, draw-got (grandparent n given) _ s a.value a.supply drawn) (f (turn-under v))
 
-pub ruleset narrowTurnLaws = (turn_one, turn-spent, turn-done)
+pub ruleset narrow_turn_laws = (turn_one, turn-spent, turn-done)

@@ -1,5 +1,5 @@
--- The ways through WideExchange: a node other than the root and i (`apartLaws`), what is declined (`wideDeclinesLaws`), and the turn
--- (`wideLaws`). Assumes nothing.
+-- The ways through WideExchange: a node other than the root and i (`apart_laws`), what is declined (`wide_declines_laws`), and the turn
+-- (`wide_laws`). Assumes nothing.
 use mathlib.Core.Path.{◌≡◌, refl, sym, ap, ◌∙◌}
 use mathlib.Core.Bool.{Bool, true, false, not, cond}
 use mathlib.Core.List.{List}
@@ -49,7 +49,7 @@ module _ (n root i : ℕ) (s : Supply) (r : DrawnNumber) (e : r ≡ drawn_number
   pub apart-fewer : r.ok ≡ true → r.supply.left < s.left
   apart-fewer h = redraw-fewer (λ j. not (eqb j i)) (non_root n root) s r e h
 
-pub ruleset apartLaws = (apart-spent, apart-taken, apart-passed, apart-fewer)
+pub ruleset apart_laws = (apart-spent, apart-taken, apart-passed, apart-fewer)
 
 -- ---- what is declined
 
@@ -77,7 +77,7 @@ module _ (ps : List ℕ) (hs : List Float) (i j p q : ℕ) (ep : p ≡ get_or ps
         unfolding wide_declines parent height
         declines-last d z w ez ew = rw (← ep, ← eq, ne_eqb p q a, ne_eqb i q b, ne_eqb j p c, ← ex, ← ey, d, ← ez, ← ew)
 
-pub ruleset wideDeclinesLaws = (declines-siblings, declines-i, declines-j, declines-low, declines-last)
+pub ruleset wide_declines_laws = (declines-siblings, declines-i, declines-j, declines-low, declines-last)
 
 -- ---- what was drawn are nodes
 
@@ -133,4 +133,4 @@ module _ (pairs parents : List ℕ) (heights : List Float) (root : ℕ) (s : Sup
             let j = second_node (nodes_of pairs) root a.supply b a.value eb k in
             rw (ends, ← dates, ← ed, y, ← swap-whole (nodes_of pairs) t a.value b.value (f (valid-exchanges v a.value b.value i j)))
 
-pub ruleset wideLaws = (wide_spent, wide-spent-later, wide_declined, wide-moved)
+pub ruleset wide_laws = (wide_spent, wide-spent-later, wide_declined, wide-moved)

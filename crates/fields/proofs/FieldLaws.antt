@@ -1,5 +1,5 @@
--- The ways through the scales of a process: what is above a shift (`aboveLaws`), a field (`fieldLaws`), the limits (`limitLaws`), the process
--- with another value (`putLaws`), and the call (`fbdLaws`). Assumes nothing.
+-- The ways through the scales of a process: what is above a shift (`above_laws`), a field (`field_laws`), the limits (`limit_laws`), the process
+-- with another value (`put_laws`), and the call (`fbd_laws`). Assumes nothing.
 use mathlib.Core.Path.{◌≡◌, refl, sym, ap, ◌∙◌}
 use mathlib.Core.Bool.{Bool, true, false, ◌&&◌}
 use Prim.Native.Nat.{ℕ}
@@ -34,7 +34,7 @@ module _ (shift x : Float) (b : Bool) (e : b ≡ finite x) where
   pub above-not : b ≡ false → b ≡ above shift x
   above-not h = rw (← e, h)
 
-pub ruleset aboveLaws = (above-finite, above-not)
+pub ruleset above_laws = (above-finite, above-not)
 
 -- ---- a field
 
@@ -67,7 +67,7 @@ module _ (limits estimated : Bool) (value shift tuning : Float) (g : Random) (al
           settled-call limits (field estimated value shift tuning) value g allowance holds b (add binary64 shift (mul binary64 (sub binary64 value shift) f)) f u.supply
           (rw (h, eb) (factored-got tuning (λ f. add binary64 shift (mul binary64 (sub binary64 value shift) f)) (above shift) (supply_of g allowance) u e k f ef)) r er
 
-pub ruleset fieldLaws = (field-limits, field-undrawn, call-left, field-spent, field-settled)
+pub ruleset field_laws = (field-limits, field-undrawn, call-left, field-spent, field-settled)
 
 -- ---- the limits
 
@@ -90,7 +90,7 @@ module _ (priors : ProcessPriors) (p : FossilizedBirthDeath) (offset tuning : Fl
       unfolding fbd_limits
       limits-priors h d ed = rw (← ea, ha, ← eb, hb, ← ec, h, ed)
 
-pub ruleset limitLaws = (limits-tuning, limits-offset, limits-process, limits-priors)
+pub ruleset limit_laws = (limits-tuning, limits-offset, limits-process, limits-priors)
 
 -- ---- the process with another value
 
@@ -98,7 +98,7 @@ module _ (k j : Field) (e : k ≡ j) (p : FossilizedBirthDeath) (x : Float) wher
   pub put-at : (q : FossilizedBirthDeath) → q ≡ put j p x → q ≡ put k p x
   put-at q h = rw (e, h)
 
-pub ruleset putLaws = (put-at)
+pub ruleset put_laws = (put-at)
 
 -- ---- the call
 
@@ -119,4 +119,4 @@ module _ (k : Field) (priors : ProcessPriors) (p : FossilizedBirthDeath) (offset
       let part = value-part (put k p) (fbd_limits priors p offset tuning) (field (estimates priors (move_of k)) (value_of k p) (shift_of k offset) tuning) (value_of k p) g allowance in
       rw eq (ap (put_in (put k p)) inner ∙ sym (rw (put_same k p) at part))
 
-pub ruleset fbdLaws = (fbd-done)
+pub ruleset fbd_laws = (fbd-done)

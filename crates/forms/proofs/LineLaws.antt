@@ -44,7 +44,7 @@ module _ (s : List ℕ) (n : Number) where
     unfolding onward fixed ◌>>=◌ return
     end-there j m = rw (q, ← e, m)
 
-pub ruleset endLaws = (end-malformed, end-missing, end-there)
+pub ruleset end_laws = (end-malformed, end-missing, end-there)
 
 -- ---- a key and a value
 
@@ -57,7 +57,7 @@ module _ {A : Type 0} (s : List ℕ) (p : Place) (key : List ℕ) (value : Rule 
   unfolding onward ◌>>=◌ entry
   key-there i x y m r q = q ∙ rw (r, ← e, m)
 
-pub ruleset keyLaws = (key-missing, key-there)
+pub ruleset key_laws = (key-missing, key-there)
 
 -- ---- a fixed line
 
@@ -118,7 +118,7 @@ module _ (x : Parsed ℕ) (k : Kind) (t : Bool) (s : List ℕ) where
   unfolding node_line
   node_unused q h e = e ∙ ap (λ (b : Bool). entry (bytes "node=") (decimal (cond b most_nodes 0)) s) (sym h ∙ q)
 
-pub ruleset fixedLaws = (fixed-missing, fixed-there, edition-fixed, tuning-used, tuning_unused, node-used, node_unused)
+pub ruleset fixed_laws = (fixed-missing, fixed-there, edition-fixed, tuning-used, tuning_unused, node-used, node_unused)
 
 -- ---- a value after a comma
 
@@ -131,7 +131,7 @@ module _ {A : Type 0} (s : List ℕ) (p : Place) (rule : Rule A) (t : List ℕ) 
   unfolding onward ◌>>=◌ next
   next-there i x m q = q ∙ rw (← e, m)
 
-pub ruleset nextLaws = (next-missing, next-there)
+pub ruleset next_laws = (next-missing, next-there)
 
 -- ---- four words
 
@@ -159,7 +159,7 @@ module _ (s t : List ℕ) (a : Number) (ea : numbered s a ≡ word t) where
         unfolding onward ◌>>=◌ return words
         words-four w l m = rw (← ea, pa, ← eb, pb, ← ec, pc, ← ed, m)
 
-pub ruleset wordsLaws = (words-none, words-one, words-two, words-three, words-four)
+pub ruleset words_laws = (words-none, words-one, words-two, words-three, words-four)
 
 -- ---- a value whose reader leaves the end of the line
 
@@ -201,7 +201,7 @@ module _ (s : List ℕ) (p : Place) (key t : List ℕ) (i : ℕ) (e : placed s p
       pub name-there : (l : ℕ) → q ≡ At l → named s (Name k l) ≡ entry key value t
       name-there = value_there s p key value t i (named s r) e m er k j q (ap (named s) n) eq
 
-pub ruleset valueLaws = (key-missing, words-malformed, words_open, words-there, name-malformed, name-open, name-there)
+pub ruleset value_laws = (key-missing, words-malformed, words_open, words-there, name-malformed, name-open, name-there)
 
 -- ---- the name of a move
 
@@ -218,7 +218,7 @@ pub name-none : (t : List ℕ) → malformed ≡ one_of [] t
 unfolding one_of
 name-none t = refl
 
-pub ruleset nameLaws = (name-here, name-next, name-none)
+pub ruleset name_laws = (name-here, name-next, name-none)
 
 -- ---- a pair
 
@@ -260,4 +260,4 @@ next_fits s t a x i e p = go (literal (bytes ",") t) (sym e ∙ ap (numbered s) 
     go malformed q = absurd (unread q)
     go (parsed u r) q = let l = decimal-small most_nodes x r (drop i s) (lit< tt) q in Fits-under w16 x 65536 (omega arith) tt
 
-pub ruleset pairLaws = (pair_missing, pair-none, pair_one, pair-open, pair-there, node-fits, next_fits)
+pub ruleset pair_laws = (pair_missing, pair-none, pair_one, pair-open, pair-there, node-fits, next_fits)

@@ -19,7 +19,7 @@ use Rattle.calls.specs.declared.Turn.{Turn}
 use Rattle.calls.specs.declared.Turned.TheVariants as Turns
 use Rattle.calls.specs.Given.{After, after, after_on, turn_of}
 use Rattle.calls.specs.Harmless.{Mild}
-use Rattle.calls.specs.HarmlessLaws.{mildLaws, mild-moved, mild-declined, mild-later, run-mild}
+use Rattle.calls.specs.HarmlessLaws.{mild_laws, mild-moved, mild-declined, mild-later, run-mild}
 use Rattle.moves.specs.Programs.{placing}
 use Rattle.heights.specs.Given.{heights_of, stays, scaled_with, scaled_turn}
 
@@ -60,4 +60,4 @@ pub scaled-mild : (pairs parents : List ℕ) (heights : List Float) (root : ℕ)
 scaled-mild pairs parents heights root s u h z =
     mild-moved pairs parents heights root s u root z pairs parents (scaled_with z heights) h refl refl (with-length z heights)
 
-pub ruleset heightsMildLaws = (mildLaws, stay-mild, scale-stay-mild, placed-mild, scaled-mild)
+pub ruleset heights_mild_laws = (mild_laws, stay-mild, scale-stay-mild, placed-mild, scaled-mild)

@@ -1,5 +1,5 @@
--- The ways through NodeHeight: an internal node other than the root (`nonRootInternalLaws`), the taller child's height (`floorLaws`), a height for
--- a node (`placeLaws`), and the turn (`nodeHeightLaws`). Assumes nothing.
+-- The ways through NodeHeight: an internal node other than the root (`non_root_internal_laws`), the taller child's height (`floor_laws`), a height for
+-- a node (`place_laws`), and the turn (`node_height_laws`). Assumes nothing.
 use mathlib.Core.Path.{◌≡◌, refl, sym, ap, ◌∙◌}
 use mathlib.Core.Bool.{Bool, true, false, true≢false, not}
 use mathlib.Core.List.{List}
@@ -57,7 +57,7 @@ module _ (n : ℕ) where
   unfolding non_root_internal internal below_other
   non-root-internal-is root s r e = rw (half, rest) e
 
-pub ruleset nonRootInternalLaws = (non-root-internal-fits, non-root-internal-is)
+pub ruleset non_root_internal_laws = (non-root-internal-fits, non-root-internal-is)
 
 -- ---- the taller child's height
 
@@ -66,7 +66,7 @@ module _ (pairs : List ℕ) (heights : List Float) (k : ℕ) where
   unfolding height
   floor-is r e = rw (e, next_place pairs k)
 
-pub ruleset floorLaws = (floor-is)
+pub ruleset floor_laws = (floor-is)
 
 -- ---- a height for node k
 
@@ -100,7 +100,7 @@ module _ (pairs parents : List ℕ) (heights : List Float) (root k : ℕ) (betwe
       unfolding placing turn_of set_height
       place-moved x q hs w = rw (height-inside k (floor here k) (height here (parent here k)) make between u e f y shown x q, w)
 
-pub ruleset placeLaws = (place-spent, place-outside, place-moved)
+pub ruleset place_laws = (place-spent, place-outside, place-moved)
 
 -- ---- the turn
 
@@ -147,4 +147,4 @@ module _ (pairs parents : List ℕ) (heights : List Float) (root : ℕ) (s : Sup
             let y = until-yields (Internal n) (λ j. not (eqb j root)) (internal n) (internal-yields n v.sized.odd) s d.value d.supply (number-got s d _ drawn f) in
             absurd (true≢false (sym (ek ∙ valid-kin pairs parents heights root v d.value y.1.node y.1.inner (neqb→ne d.value root (rw y.0 tt))) ∙ g))
 
-pub ruleset nodeHeightLaws = (turn-misshapen, turn_alone, turn-spent, turn-placed, turn-kinless)
+pub ruleset node_height_laws = (turn-misshapen, turn_alone, turn-spent, turn-placed, turn-kinless)

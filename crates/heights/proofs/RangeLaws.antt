@@ -1,4 +1,4 @@
--- The tests of what is in range: the ways through them (`rangeLaws`), what one that passed shows, for the reads that it guards (`kinLaws`), and that
+-- The tests of what is in range: the ways through them (`range_laws`), what one that passed shows, for the reads that it guards (`kin_laws`), and that
 -- a valid tree passes them (`valid-children`, `valid-kin`). Assumes nothing.
 use mathlib.Core.Path.{◌≡◌}
 use mathlib.Core.Bool.{Bool, true, false, ◌&&◌}
@@ -66,7 +66,7 @@ module _ (pairs : List ℕ) (heights : List Float) (k : ℕ) where
     unfolding has_kin
     kin-tested t p = rw (← e, t, lt-ltb k (length parents) p)
 
-pub ruleset rangeLaws = (wide16, shape-parents, shape-pairs, scalable-few, scalable-many, children-past, children-unpaired, children-second, children-first, kin-childless, kin-past, kin-tested)
+pub ruleset range_laws = (wide16, shape-parents, shape-pairs, scalable-few, scalable-many, children-past, children-unpaired, children-second, children-first, kin-childless, kin-past, kin-tested)
 
 -- ---- what they show
 
@@ -127,7 +127,7 @@ module _ (pairs parents : List ℕ) (heights : List Float) (k : ℕ) (h : T (has
   unfolding has_kin
   parent_in = ltb→lt (get_or parents k 0) (length heights) (and_r (has_children pairs heights k && ltb k (length parents)) (ltb (get_or parents k 0) (length heights)) h)
 
-pub ruleset kinLaws = (wide16, passed, own_in, tested-in, first-place, second-place, first-in, second-in, kin-children, kin-in, parent_place, parent_in)
+pub ruleset kin_laws = (wide16, passed, own_in, tested-in, first-place, second-place, first-in, second-in, kin-children, kin-in, parent_place, parent_in)
 
 -- ---- a valid tree passes them
 

@@ -59,4 +59,4 @@ module _ (pairs parents : List ℕ) (heights : List Float) (root : ℕ) where
         unfolding root_scale turn_of run height root_scale_declines set_height
         root-moved d = rw (bind-got uniform _ s u.value u.supply (real-got s u (run uniform s) e g), ← ef, ← eb, k, ← el, d)
 
-pub ruleset rootScaleLaws = (root-spent, root-childless, root-not-finite, root_declined, root-moved)
+pub ruleset root_scale_laws = (root-spent, root-childless, root-not-finite, root_declined, root-moved)

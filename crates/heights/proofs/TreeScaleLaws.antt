@@ -1,5 +1,5 @@
--- The ways through TreeScale: the lowest node that overflows (`lowestLaws`), the heights that are scaled (`scaleLaws`), the ratio
--- (`ratioLaws`), the turn (`treeScaleLaws`), and the answer with the heights after it (`scaleAnswerLaws`, `scale-power`). Assumes nothing.
+-- The ways through TreeScale: the lowest node that overflows (`lowest_laws`), the heights that are scaled (`scale_laws`), the ratio
+-- (`ratio_laws`), the turn (`tree_scale_laws`), and the answer with the heights after it (`scale_answer_laws`, `scale-power`). Assumes nothing.
 use mathlib.Core.Path.{◌≡◌, refl, sym, ap, ◌∙◌}
 use mathlib.Core.Bool.{Bool, true, false, true≢false, not, ◌&&◌, cond}
 use mathlib.Core.List.{List}
@@ -80,7 +80,7 @@ module _ (hs : List Float) (f : Float) where
         go zero l u = sym (least-none over zero (λ j h. absurd (omega arith)))
         go (suc n) l u = let z : suc n ≡ k = omega arith in rw z (sym i)
 
-pub ruleset lowestLaws = (lowest_start, lowest_step, lowest-stop, lowest-end)
+pub ruleset lowest_laws = (lowest_start, lowest_step, lowest-stop, lowest-end)
 
 -- ---- the heights that are scaled
 
@@ -139,7 +139,7 @@ module _ (hs₀ : List Float) (f : Float) where
         go zero l u = scaled-tips zero start f k (omega arith) ∙ sym (scaled-tips zero start f zero (omega arith))
         go (suc n) l u = let z : k ≡ suc n = omega arith in ap (scaled_to (suc n) start f) z
 
-pub ruleset scaleLaws = (scale-start, scale-step, scale-end)
+pub ruleset scale_laws = (scale-start, scale-step, scale-end)
 
 -- ---- the ratio
 
@@ -163,7 +163,7 @@ module _ (n : ℕ) (h : n ≤ 4095) where
   pub ratio-is : (f : Float) → Power f (to_z w32 (of_z w32 (to_z w32 (n / 2) -ℤ pos 2))) ≡ tree_scale_ratio n f
   ratio-is f = rw read (ap (Power f) (to_z-of_z (less_two (internals n) (omega arith))))
 
-pub ruleset ratioLaws = (ratio-fits, ratio-is)
+pub ruleset ratio_laws = (ratio-fits, ratio-is)
 
 -- ---- the turn
 
@@ -237,7 +237,7 @@ module _ (pairs parents : List ℕ) (heights : List Float) (root : ℕ) (tuning 
         let m : least (overflows n t f) n < n = least-some (overflows n t f) n root v.root_node (rw (lt-ltb n (root + root) (root-inner v), ← eb, y)) in
         rw (ran, lt-ltb k n m, ej, long)
 
-pub ruleset treeScaleLaws = (tree-spent, tree-unscalable, tree-moved, tree-not-finite, few-nodes, root-place, wide16)
+pub ruleset tree_scale_laws = (tree-spent, tree-unscalable, tree-moved, tree-not-finite, few-nodes, root-place, wide16)
 
 -- ---- the answer, and the heights after it
 
@@ -268,7 +268,7 @@ module _ (pairs parents : List ℕ) (heights : List Float) (root : ℕ) (limits 
       let e : scaled_by r.answer heights ≡ scaled_turn turn.turned heights = ap (λ (x : Answered). scaled_by x.answer heights) er ∙ settled turn.turned turn.supply g allowance heights in
       rw e (unvalidated-done pairs parents heights root limits b eb allowance v ev program g y turn pairs parents (scaled_turn turn.turned heights) f r er)
 
-pub ruleset scaleAnswerLaws = (scale-refused, scale-done)
+pub ruleset scale_answer_laws = (scale-refused, scale-done)
 
 -- a power scales
 pub scale-power : (a : Answer) (m : Moved) → a ≡ Answers.Moved m → (f : Float) (k : ℤ) → m.ratio ≡ Power f k → (hs₀ hs : List Float)

@@ -1,4 +1,4 @@
--- The ways through the loop that makes marks of bytes (`markLaws`), and through the calls with marks (`callLaws`). Assumes nothing.
+-- The ways through the loop that makes marks of bytes (`mark_laws`), and through the calls with marks (`call_laws`). Assumes nothing.
 use mathlib.Core.Path.{◌≡◌, refl, sym, ap, ◌∙◌}
 use mathlib.Core.Bool.{Bool, true, false, cond}
 use mathlib.Core.List.{List, map, map-append}
@@ -38,7 +38,7 @@ module _ (members : List ℕ) (marks : List Bool) where
     pub mark-all : length members ≤ i → marks ≡ marks_of members
     mark-all h = let l : length marks ≤ i = omega arith in sym (take_all i marks l) ∙ done ∙ ap marks_of (take_all i members h)
 
-pub ruleset markLaws = (mark-none, mark-more, mark-all)
+pub ruleset mark_laws = (mark-none, mark-more, mark-all)
 
 -- ---- the calls
 
@@ -87,4 +87,4 @@ module _ (n : ℕ) (h : n ≤ 2048) (l : List Bool) (m : length l ≡ 2048) wher
   pub part-long : length (take n l) ≡ n
   part-long = length-take-le n l part-fits
 
-pub ruleset callLaws = (monophyly-many, age-many, monophyly-marked, age-marked, part-fits, part-long)
+pub ruleset call_laws = (monophyly-many, age-many, monophyly-marked, age-marked, part-fits, part-long)

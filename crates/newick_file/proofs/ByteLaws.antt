@@ -23,7 +23,7 @@ module _ (q : Filer) where
   pub close-after : (h n : ℕ) → h ≡ q.height - 1 → n ≡ short (suc q.next) → filer h n 0 true ≡ after_close q
   close-after h n e f = ap₂ (λ (x y : ℕ). filer x y 0 true) e f
 
-pub ruleset afterLaws = (digit-after, tip-after, close-after)
+pub ruleset after_laws = (digit-after, tip-after, close-after)
 
 -- ---- stores
 
@@ -37,7 +37,7 @@ children-put h n st ps i j a b ei ea ej eb p q ep eq =
 pub length-put : (h v : ℕ) (st us : List ℕ) (i k : ℕ) → i ≡ h - 1 → k ≡ get_or st i 0 → (l : List ℕ) → l ≡ set us k v → l ≡ ups_ended h v st us
 length-put h v st us i k ei ek l e = e ∙ ap (λ (z : ℕ). set us z v) (ek ∙ ap (λ (z : ℕ). get_or st z 0) ei)
 
-pub ruleset putLaws = (children-put, length-put)
+pub ruleset put_laws = (children-put, length-put)
 
 -- ---- a byte
 
@@ -69,7 +69,7 @@ module _ (b : ℕ) (q : Filer) (ps us st : List ℕ) (se : List Bool) (r : Filer
   unfolding file_sign
   other_way n₁ n₂ n₃ n₄ f = rw (ne_eqb b 46 n₁, ne_eqb b 58 n₂, ne_eqb b 44 n₃, ne_eqb b 41 n₄) (ap (filing ps us st se) f)
 
-pub ruleset signLaws = (point-way, made-way, tip-way, comma-way, close-way, other_way)
+pub ruleset sign_laws = (point-way, made-way, tip-way, comma-way, close-way, other_way)
 
 module _ (b : ℕ) (t : Bool) (e : t ≡ is_decimal b) where
   pub digit_low : t ≡ true → 48 ≤ b
@@ -84,4 +84,4 @@ module _ (b : ℕ) (t : Bool) (e : t ≡ is_decimal b) where
     unfolding file_byte
     sign-way h F f = rw (← e, h) f
 
-pub ruleset byteLaws = (digit_low, digit-way, sign-way)
+pub ruleset byte_laws = (digit_low, digit-way, sign-way)

@@ -40,7 +40,7 @@ pub built-blank : (s : List ℕ) (tips : ℕ) (ps us st : List ℕ) (se : List B
     → Built ps us se (file (blank tips p u st e) s)
 built-blank s tips ps us st se ps₀ us₀ se₀ p u e f g h B = subst (Built ps us se) (λ i. file (begun tips (f i) (g i) st (h i)) s) B
 
-pub ruleset passLaws = (files-next, files-end, built-blank)
+pub ruleset pass_laws = (files-next, files-end, built-blank)
 
 -- ---- counting
 
@@ -71,4 +71,4 @@ module _ (s : List ℕ) (i n : ℕ) (C : Counted s i n) where
   unfolding closes
   counted-end h = let z : closes (drop i s) ≡ 0 = ap closes (drop_of_length-le s {i = i} h) in let r = C.rest in omega arith
 
-pub ruleset countLaws = (count-one, count_none, counted_next, counted-end)
+pub ruleset count_laws = (count-one, count_none, counted_next, counted-end)

@@ -26,7 +26,7 @@ module _ (l : List ℕ) (k x : ℕ) where
   pub second-in : set l (k + k + 1) x ≡ set l (suc (k + k)) x
   second-in = ap (λ (i : ℕ). set l i x) (add-one (k + k))
 
-pub ruleset storeLaws = (read_past, store-past, first_past, second_past, second-in)
+pub ruleset store_laws = (read_past, store-past, first_past, second_past, second-in)
 
 -- ---- loops
 
@@ -51,4 +51,4 @@ module _ {A : Type 0} (d : A) (l : List A) (x : A) where
     fill_end n h e =
         ext_get_or d l (replicate n x) (e ∙ sym (length-replicate n x)) (λ j J. F.same j (omega arith) ∙ sym (get_or-replicate n j x d (omega arith)))
 
-pub ruleset fillLaws = (fill_none, fill-next, fill_end)
+pub ruleset fill_laws = (fill_none, fill-next, fill_end)

@@ -41,7 +41,7 @@ module _ (long tips : ℕ) (fo us : List ℕ) (se : List Bool) (pairs ages : Lis
   unfolding judge
   tips-unseen f = ap (λ (x : Bool). cond x (judge_age long tips fo us (root_reach tips fo us) pairs ages) (place_call long pairs ages)) (sym f ∙ e)
 
-pub ruleset judgeLaws = (age-young, age-old, tips-seen, tips-unseen)
+pub ruleset judge_laws = (age-young, age-old, tips-seen, tips-unseen)
 
 -- ---- in room for what is filled
 
@@ -73,7 +73,7 @@ module _ (s : List ℕ) (tips p u : ℕ) (W : Works s tips p u tips) where
       subst (λ (x : ℕ). Works s tips x (length (take u m)) tips) (sym (part-long l 8190 p e slots-room))
       (subst (λ (x : ℕ). Works s tips p x tips) (sym (part-long m 4095 u f nodes-room)) W)
 
-pub ruleset roomLaws = (works, part-long, nodes-room, slots-room, marks-read, lists-work)
+pub ruleset room_laws = (works, part-long, nodes-room, slots-room, marks-read, lists-work)
 
 -- ---- by the count of tips
 
@@ -95,4 +95,4 @@ module _ (s : List ℕ) (a : Spelling) (e : a ≡ spelling_of s) where
   pub read-spelled : a ≡ Spelled → Whole s
   read-spelled f = let r = spelled-run s (sym e ∙ f) in record { value = r.0; ran = r.1 }
 
-pub ruleset callLaws = (whole-many, read-forbidden, read-unfinished, read-spelled)
+pub ruleset call_laws = (whole-many, read-forbidden, read-unfinished, read-spelled)

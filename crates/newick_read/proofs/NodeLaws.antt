@@ -66,7 +66,7 @@ module _ (tips v : ℕ) (fo us : List ℕ) where
         e₂ ∙ (λ w. ages_at (z w) tips fo us (eb w) (fy w) (f₁ w)) in
         rw (le-ltb v tips g) (em ∙ ap (λ (k : List ℕ). set k v h) f₂)
 
-pub ruleset downLaws = (reach-none, reach-tip, reach-join, ages-none, ages-tip, ages-join)
+pub ruleset down_laws = (reach-none, reach-tip, reach-join, ages-none, ages-tip, ages-join)
 
 -- ---- from the root
 
@@ -77,4 +77,4 @@ module _ (tips : ℕ) (fo us : List ℕ) (root : ℕ) (e : root ≡ length us - 
   pub ages-root : (h n : ℕ) (l m : List ℕ) → l ≡ replicate n 0 → m ≡ ages_at tips tips fo us root h l → m ≡ root_ages tips fo us h n
   ages-root h n l m f g = g ∙ (λ i. ages_at tips tips fo us (e i) h (f i))
 
-pub ruleset rootLaws = (reach-root, ages-root)
+pub ruleset root_laws = (reach-root, ages-root)

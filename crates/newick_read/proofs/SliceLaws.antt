@@ -34,7 +34,7 @@ module _ (from to : List ℕ) where
     pub copy-end : length from ≤ m → to ≡ from
     copy-end h = ext_get_or 0 to from c.long (λ j b. let l = c.long in c.same j (omega arith))
 
-pub ruleset copyLaws = (copy_step, copy-end)
+pub ruleset copy_laws = (copy_step, copy-end)
 
 -- ---- tips that were seen
 
@@ -64,7 +64,7 @@ module _ (se : List Bool) (m : ℕ) (i : all_seen se m ≡ true) where
   pub seen_end : length se ≤ m → m ≤ length se → true ≡ all_seen se (length se)
   seen_end h k = let z : length se ≡ m = omega arith in rw z (sym i)
 
-pub ruleset seenLaws = (seen_start, seen_step, seen-stop, seen_end)
+pub ruleset seen_laws = (seen_start, seen_step, seen-stop, seen_end)
 
 -- ---- the lent slices
 
@@ -94,4 +94,4 @@ module _ (tips : ℕ) (fo us : List ℕ) (h : ℕ) where
       unfolding deliver
       both-sent f p a g i = rw (le-ltb (length pairs) (length fo) e, le-ltb (length ages) (length us) f) (ap₂ (taken (Nodes (length us))) g i)
 
-pub ruleset sendLaws = (part_room, pairs-sent, ages-sent, pairs-short, ages-short, both-sent)
+pub ruleset send_laws = (part_room, pairs-sent, ages-sent, pairs-short, ages-short, both-sent)

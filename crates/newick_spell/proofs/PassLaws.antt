@@ -1,4 +1,4 @@
--- The pass: the ways through its code, behind the last parenthesis (`endLaws`), behind a branch (`closeLaws`), and where a subtree begins (`passLaws`).
+-- The pass: the ways through its code, behind the last parenthesis (`end_laws`), behind a branch (`close_laws`), and where a subtree begins (`pass_laws`).
 -- Assumes nothing.
 use mathlib.Core.Path.{◌≡◌, refl, sym, ◌∙◌, subst}
 use mathlib.Core.Bool.{Bool, true, false}
@@ -43,7 +43,7 @@ module _ (s : List ℕ) (at : ℕ) (u : Bool) (e : u ≡ is_sign s at 59) where
   pub end-not : u ≡ false → (r : Spelling) → r ≡ stopped s at → Finishes s at r
   end-not f r g = λ side l S. g ∙ breaks s at (eqb (get_or s at 0) 59) Done 0 side l (last-waits side l S) (sym e ∙ f)
 
-pub ruleset endLaws = (end_more, end-all, end-not)
+pub ruleset end_laws = (end_more, end-all, end-not)
 
 -- ---- behind a branch
 
@@ -130,7 +130,7 @@ module _ (s : List ℕ) (at : ℕ) (d : ℕ) (side : Bool) (l : List Bool) (S : 
         let h = here-inside s at (eqb (get_or s at 0) 44) (sym e ∙ g) in
         (omega arith, turn-comma s at Branch d false l at_first h.0 Sub (rw h.1) (eqb-true (get_or s at 0) 44 h.1))
 
-pub ruleset closeLaws = (close-not, close-some, close-closes, close-last, close-on, close-break, reached-told, reached-stands, reached-past, reached-less, all-second, all-not, all-comma)
+pub ruleset close_laws = (close-not, close-some, close-closes, close-last, close-on, close-break, reached-told, reached-stands, reached-past, reached-less, all-second, all-not, all-comma)
 
 -- ---- where a subtree begins
 
@@ -181,4 +181,4 @@ module _ (s : List ℕ) (u : Bool) (e : u ≡ is_sign s 0 40) where
   pub first-not : u ≡ false → (l : List Bool) → (a : Spelling) → a ≡ stopped s 0 → a ≡ spelling_of s
   first-not f l a g = g ∙ breaks s 0 (eqb (get_or s 0 0) 40) Sub 0 false l (first-waits l) (sym e ∙ f)
 
-pub ruleset passLaws = (reached-told, reached-stands, reached-less, tip-stands, tip-reaches, tip-broken, begins-tip, begins-open, first-open, first-not)
+pub ruleset pass_laws = (reached-told, reached-stands, reached-less, tip-stands, tip-reaches, tip-broken, begins-tip, begins-open, first-open, first-not)

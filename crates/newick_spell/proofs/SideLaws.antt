@@ -1,4 +1,4 @@
--- The sides of the open parentheses: the ways through the code that goes back in the text (`commaLaws`) and through the code of the list (`keepLaws`), and
+-- The sides of the open parentheses: the ways through the code that goes back in the text (`comma_laws`) and through the code of the list (`keep_laws`), and
 -- how the text and the list go on telling the sides where a byte opens or closes a parenthesis. Assumes nothing.
 use mathlib.Core.Path.{◌≡◌, refl, sym, ap, ◌∙◌}
 use mathlib.Core.Bool.{Bool, false}
@@ -66,7 +66,7 @@ module _ (k i : ℕ) (s : List ℕ) (c : Bool) (e : comma_under k (back i s) ≡
     pub go_on : (get_or s (i - 1) 0 ≡ 40 → ⊥) → (get_or s (i - 1) 0 ≡ 41 → ⊥) → comma_under k (back (i - 1) s) ≡ c
     go_on p q = sym (under-on k (get_or s (i - 1) 0) (back (i - 1) s) p q) ∙ last
 
-pub ruleset commaLaws = (end_none, end-first, end-here, go-out, go-in, go_on)
+pub ruleset comma_laws = (end_none, end-first, end-here, go-out, go-in, go_on)
 
 -- ---- the code of the list
 
@@ -78,7 +78,7 @@ set_past (y ∷ l) (suc i) x h = ap (λ (m : List Bool). y ∷ m) (set_past l i 
 pub closes_kept : (s : List ℕ) (at outer : ℕ) (l : List Bool) → Closes s at outer l → outer < length l → get_or l outer false ≡ comma_before s at
 closes_kept s at outer l h = h.kept
 
-pub ruleset keepLaws = (set_past, closes_kept)
+pub ruleset keep_laws = (set_past, closes_kept)
 
 -- ---- a byte that opens or closes a parenthesis
 

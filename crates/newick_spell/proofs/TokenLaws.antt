@@ -1,4 +1,4 @@
--- The tokens: the ways through the code of a byte (`byteLaws`), of a number (`numberLaws`), and of a branch and a tip (`tokenLaws`). Assumes nothing.
+-- The tokens: the ways through the code of a byte (`byte_laws`), of a number (`number_laws`), and of a branch and a tip (`token_laws`). Assumes nothing.
 use mathlib.Core.Path.{◌≡◌, refl, sym, ap, ◌∙◌, subst}
 use mathlib.Core.Bool.{Bool, true, false, cond, false≢true}
 use mathlib.Core.List.{List}
@@ -60,7 +60,7 @@ module _ (s : List ℕ) (at : ℕ) where
     pub less-next : length s - (at + 1) < length s - at
     less-next = let k : at < length s = tested in omega arith
 
-pub ruleset byteLaws = (here_in, here-past, stop-in, stop-past, room_next, less-next)
+pub ruleset byte_laws = (here_in, here-past, stop-in, stop-past, room_next, less-next)
 
 -- ---- a byte that leads on, or none
 
@@ -124,7 +124,7 @@ module _ (s : List ℕ) (at : ℕ) where
   pub number-not : (v : Bool) → v ≡ is_digit s at → v ≡ false → NumberFrom s at (Went.Not at)
   number-not v g h = (refl, sym g ∙ h)
 
-pub ruleset numberLaws = (digits-none, digits_more, digits-end, number-nought, number_more, number-not)
+pub ruleset number_laws = (digits-none, digits_more, digits-end, number-nought, number_more, number-not)
 
 -- ---- a number
 
@@ -324,4 +324,4 @@ module _ (s : List ℕ) where
         pub tip-not : Ends s at (Went.Not x) (AtTip s at)
         tip-not = λ d side l A. subst (Leaves Zero Name 58 Colon name-numeral s d side l at) q (tip-leaves d side l A)
 
-pub ruleset tokenLaws = (decimals-none, decimals-one, decimals-two, decimals-all, fraction-not, fraction-on, branch-not, branch-on, length-on, length-not, tip-on, tip-not)
+pub ruleset token_laws = (decimals-none, decimals-one, decimals-two, decimals-all, fraction-not, fraction-on, branch-not, branch-on, length-on, length-not, tip-on, tip-not)

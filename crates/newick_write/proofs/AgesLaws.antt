@@ -1,4 +1,4 @@
--- The ways through `print_ages`: at the start, past a height that is printed, at one that is not, and at the end (`agesLaws`). Assumes nothing.
+-- The ways through `print_ages`: at the start, past a height that is printed, at one that is not, and at the end (`ages_laws`). Assumes nothing.
 use mathlib.Core.Path.{◌≡◌, refl, sym, ap, ◌∙◌}
 use mathlib.Core.List.{List, [], ◌∷◌}
 use Prim.Native.Nat.{ℕ, zero, suc, ◌+◌, ◌≤◌, ◌<◌}
@@ -60,4 +60,4 @@ module _ (heights : List Float) (ages : List ℕ) (k : ℕ) (P : Printing height
   pub printing-all : length heights ≤ k → aged ages ≡ ages_of heights
   printing-all h = all-aged heights ages P.long (λ j J. P.done j (omega arith))
 
-pub ruleset agesLaws = (printing-none, printing-next, printing-old, printing-all)
+pub ruleset ages_laws = (printing-none, printing-next, printing-old, printing-all)

@@ -1,5 +1,5 @@
--- The ways through the code that measures and writes the text of pairs and ages: numbers, lengths and children (`lessLaws`, `putLaws`), the room that they
--- take (`roomLaws`), and the whole (`copyLaws`). The bytes 40 and 41 are the parentheses, 44 the comma, 46 the point, 58 the colon, 59 the semicolon, and 48
+-- The ways through the code that measures and writes the text of pairs and ages: numbers, lengths and children (`less_laws`, `put_laws`), the room that they
+-- take (`room_laws`), and the whole (`copy_laws`). The bytes 40 and 41 are the parentheses, 44 the comma, 46 the point, 58 the colon, 59 the semicolon, and 48
 -- the digit 0. Assumes nothing.
 use mathlib.Core.Path.{◌≡◌, refl, sym, ap, ◌∙◌}
 use mathlib.Core.Bool.{Bool, true, false}
@@ -30,7 +30,7 @@ use Rattle.newick_write.specs.Given.{children_of, space_after}
 pub age-past : (ages : List ℕ) (k : ℕ) → length ages ≤ k → 0 ≡ get_or ages k 0
 age-past ages k h = sym (get_or-eq_default ages 0 h)
 
-pub ruleset lessLaws = (age-past)
+pub ruleset less_laws = (age-past)
 
 abbrev children-made : ℕ → ℕ → ℕ → ℕ → Children
 children-made a b x y = record { first = a; second = b; upper = x; lower = y }
@@ -139,7 +139,7 @@ module _ (n k : ℕ) (ps l : List ℕ) (w : Written) where
       first colon second last v e1 e2 e3 e4 ev
       ∙ ap (write w) (text-join n k ps l depth d (sym f ∙ g) q e)
 
-pub ruleset putLaws = (number_put, last-put, decimals-put, length-put, branch-put, node-none, node-tip, children-are)
+pub ruleset put_laws = (number_put, last-put, decimals-put, length-put, branch-put, node-none, node-tip, children-are)
 
 -- ---- room
 
@@ -219,7 +219,7 @@ module _ (n k : ℕ) (ps l : List ℕ) (room : Space) where
       (er ∙ ap (space_after second) (ey ∙ sym (branch-long q.lower 41)))
       ∙ ap (λ (s : List ℕ). space_after room (length s)) (text-join n k ps l depth d (sym f ∙ g) q e)
 
-pub ruleset roomLaws = (take_short, take-some, len_is, len-fits, room-none, room-tip, room-join)
+pub ruleset room_laws = (take_short, take-some, len_is, len-fits, room-none, room-tip, room-join)
 
 -- ---- the whole
 
@@ -260,4 +260,4 @@ module _ (out s : List ℕ) (x : Space) (e : x ≡ space_after (Left (length out
       let g = write-whole out s o r k f in
       rw (le-ltb (length out) (length s) k) (λ i. copied (Bytes (g i).at) (g i).bytes)
 
-pub ruleset copyLaws = (whole-put, whole_room, copy-none, copy-whole)
+pub ruleset copy_laws = (whole-put, whole_room, copy-none, copy-whole)

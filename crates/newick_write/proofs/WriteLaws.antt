@@ -1,4 +1,4 @@
--- The ways through the writer of an accepted tree (`writeLaws`): with its ages printed or not, with places for as many ages as there are heights, and with a
+-- The ways through the writer of an accepted tree (`write_laws`): with its ages printed or not, with places for as many ages as there are heights, and with a
 -- verdict on the tree. Assumes nothing.
 use mathlib.Core.Path.{◌≡◌, refl, sym, ap, ◌∙◌, subst}
 use mathlib.Core.Bool.{Bool, true, false}
@@ -63,4 +63,4 @@ module _ (pairs parents : List ℕ) (heights : List Float) (root : ℕ) (out : L
   unfolding copy_call
   write-refused why y = ap (copy_judged (tree_of pairs parents heights root) out) (sym y ∙ e)
 
-pub ruleset writeLaws = (with-text, with_none, part-long, write-few, write-fine, write-refused)
+pub ruleset write_laws = (with-text, with_none, part-long, write-few, write-fine, write-refused)

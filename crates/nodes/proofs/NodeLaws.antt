@@ -1,5 +1,5 @@
--- The ways through the accessors: of a parent (`parentLaws`), the children (`childrenLaws`), a sibling (`siblingLaws`), a height (`heightLaws`), a
--- branch (`branchLaws`) and all branches (`lengthLaws`). Assumes nothing.
+-- The ways through the accessors: of a parent (`parent_laws`), the children (`children_laws`), a sibling (`sibling_laws`), a height (`height_laws`), a
+-- branch (`branch_laws`) and all branches (`length_laws`). Assumes nothing.
 use mathlib.Core.Path.{◌≡◌, refl, sym, ap, ◌∙◌}
 use mathlib.Core.List.{List}
 use Prim.Native.Nat.{ℕ, zero, suc, ◌+◌, ◌-◌, ◌/◌, ◌%◌, ◌≤◌, ◌<◌}
@@ -34,7 +34,7 @@ module _ (ps : List ℕ) (k : ℕ) where
     unfolding parent_of
     parent_is b = rw (lt-ltb _ _ a, ne_eqb _ _ b)
 
-pub ruleset parentLaws = (parent-out, parent-nothing, parent_is)
+pub ruleset parent_laws = (parent-out, parent-nothing, parent_is)
 
 -- ---- the children
 
@@ -56,7 +56,7 @@ module _ (pairs : List ℕ) (k : ℕ) where
     unfolding children_of
     children-second b c = rw (lt-ltb _ _ a, ← next_place pairs k, eq-eqb _ _ b, ne_eqb _ _ c)
 
-pub ruleset childrenLaws = (children-out, children-tip, children-first, children-second)
+pub ruleset children_laws = (children-out, children-tip, children-first, children-second)
 
 -- ---- a sibling
 
@@ -93,7 +93,7 @@ module _ (pairs ps : List ℕ) (k : ℕ) where
       unfolding sibling_of
       sibling-other r c e = e ∙ rw (eq-eqb _ _ a, eq-eqb _ _ b, lt-ltb _ _ c)
 
-pub ruleset siblingLaws = (other-out, other-second, other-first, sibling-odd, sibling-size, sibling-out, sibling-other)
+pub ruleset sibling_laws = (other-out, other-second, other-first, sibling-odd, sibling-size, sibling-out, sibling-other)
 
 -- ---- a height
 
@@ -106,7 +106,7 @@ module _ (hs : List Float) (k : ℕ) where
   unfolding height_of
   height-is a = rw (lt-ltb _ _ a)
 
-pub ruleset heightLaws = (height-out, height-is)
+pub ruleset height_laws = (height-out, height-is)
 
 -- ---- a branch
 
@@ -134,7 +134,7 @@ module _ (ps : List ℕ) (hs : List Float) (k : ℕ) where
         unfolding branch_length branch_above
         branch-orphan d = rw (eq-eqb _ _ a, lt-ltb _ _ b, ne_eqb _ _ c, le-ltb _ _ d)
 
-pub ruleset branchLaws = (branch-size, branch-out, branch-root, branch-is, branch-orphan)
+pub ruleset branch_laws = (branch-size, branch-out, branch-root, branch-is, branch-orphan)
 
 -- ---- all branches
 
@@ -169,4 +169,4 @@ module _ (ps : List ℕ) (hs : List Float) where
           let z : length ps ≡ d + suc m = omega arith in
           rw (eq-eqb _ _ a) (sym (ap (length_to ps hs) z ∙ length-keeps ps hs (suc m) d why (rw (i, ← e, f))))
 
-pub ruleset lengthLaws = (length-size, length-start, length-end, length-step, length-stop)
+pub ruleset length_laws = (length-size, length-start, length-end, length-step, length-stop)

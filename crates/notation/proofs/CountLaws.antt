@@ -69,7 +69,7 @@ module _ (ratio : Ratio) where
 pub pair-len : (a b r s : ℕ) → r ≡ length (decimal_text a) → s ≡ length (decimal_text b) → 7 + r + s ≡ length (pair_line a b)
 pair-len a b r s er es = rw (er, es) (sym (length-pair a b))
 
-pub ruleset lenLaws = (one-fits, digits-fit, both-fit, signed-fits, signed-minus, signed-plain, even-len, counts-len, lengths-len, power-len, pair-len, lit<)
+pub ruleset len_laws = (one-fits, digits-fit, both-fit, signed-fits, signed-minus, signed-plain, even-len, counts-len, lengths-len, power-len, pair-len, lit<)
 
 -- ---- the pairs, of which those before node k are counted
 
@@ -108,4 +108,4 @@ module _ (pairs : List ℕ) (n k sum : ℕ) (c : Summed pairs n k sum) where
   unfolding pair_lines
   summed-all h = let e : n - k ≡ 0 = omega arith in let l : sum + 0 ≡ length (pairs_text pairs) = rw e at c.left in omega arith
 
-pub ruleset sumLaws = (summed-none, summed-place, summed-fits, summed-next, summed-all)
+pub ruleset sum_laws = (summed-none, summed-place, summed-fits, summed-next, summed-all)

@@ -42,7 +42,7 @@ module _ (w a b v : Written) where
     pub height-put : a ≡ write w (bytes "height=") → b ≡ write a (word_text n) → v ≡ write_byte b 10 → v ≡ write w (height_line f)
     height-put ea eb ev = rw (← en) (line-put w a b v (bytes "height=") (word_text n) ea eb ev)
 
-pub ruleset valueLaws = (comma-put, line-put, state-put, power-put, height-put)
+pub ruleset value_laws = (comma-put, line-put, state-put, power-put, height-put)
 
 -- ---- a signed number, of which n is how far it is from 0
 
@@ -61,7 +61,7 @@ module _ (w v : Written) (k : ℤ) (s : SFits w32 k) (below : Bool) (eb : below 
   unfolding signed_text
   signed_above h ev = rw (← sign, h, ← size) ev
 
-pub ruleset signedLaws = (signed_below, signed_above)
+pub ruleset signed_laws = (signed_below, signed_above)
 
 -- ---- a ratio
 
@@ -83,7 +83,7 @@ module _ (w a v : Written) (r : Ratio) where
   unfolding ratio_text comma
   ratio-power f k e ea ev = rw e (write_then w a v (bytes "power,") (comma (bits_text f) (signed_text k)) ea ev)
 
-pub ruleset ratioLaws = (ratio-even, ratio-counts, ratio-lengths, ratio-power)
+pub ruleset ratio_laws = (ratio-even, ratio-counts, ratio-lengths, ratio-power)
 
 -- ---- the pairs, of which those from node k on are left
 
@@ -103,7 +103,7 @@ module _ (pairs : List ℕ) (n k : ℕ) (a w : Written) (inv : write a (pair_lin
   unfolding pair_lines write
   pairs_end h = let e : n - k ≡ 0 = omega arith in rw e at inv
 
-pub ruleset pairsLaws = (pairs_start, pairs_next, pairs_end)
+pub ruleset pairs_laws = (pairs_start, pairs_next, pairs_end)
 
 -- ---- the heights, of which those from place k on are left
 
@@ -116,4 +116,4 @@ module _ (heights : List Float) (k : ℕ) (a w : Written) (inv : write a (height
   unfolding heights_text write
   heights-end h = rw (drop_of_length-le heights h) at inv
 
-pub ruleset heightsLaws = (heights-next, heights-end)
+pub ruleset heights_laws = (heights-next, heights-end)

@@ -68,4 +68,4 @@ module _ (k : ℤ) (f : SFits w32 k) where
   pub above-is : nat_abs (read k) ≡ nat_abs k
   above-is = rw (to_z-of_z w32 k f)
 
-pub ruleset signLaws = (sign-is, below-fits, below-sum, below-is, above-is)
+pub ruleset sign_laws = (sign-is, below-fits, below-sum, below-is, above-is)

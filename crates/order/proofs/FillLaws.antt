@@ -1,5 +1,5 @@
--- The ways through the code that fills a slice with a postorder: one node placed (`visitLaws`), all of them (`fillLaws`), and the entry point
--- (`postorderLaws`). Assumes nothing.
+-- The ways through the code that fills a slice with a postorder: one node placed (`visit_laws`), all of them (`fill_laws`), and the entry point
+-- (`postorder_laws`). Assumes nothing.
 use mathlib.Core.Path.{◌≡◌, refl, sym, ap, ◌∙◌, subst}
 use mathlib.Core.List.{List, [], ◌∷◌, ◌++◌, append-nil, append_assoc}
 use Prim.Native.Nat.{ℕ, suc, ◌+◌, ◌-◌, ◌/◌, ◌≤◌, ◌<◌}
@@ -40,7 +40,7 @@ module _ (pairs order : List ℕ) (last at : ℕ) where
   pub visit-room : (x y : ℕ) → Visits pairs order last at → length order < get_or order last 0 + get_or order last 0 → last + 1 < length (set (set order at x) last y)
   visit-room x y v i = let r = v.room i in simp (length-set, length-set) (omega arith)
 
-pub ruleset visitLaws = (visit-inner, visit-tip, visit-room)
+pub ruleset visit_laws = (visit-inner, visit-tip, visit-room)
 
 -- ---- the subtrees that wait
 
@@ -341,7 +341,7 @@ module _ (pairs : List ℕ) (root n : ℕ) (order : List ℕ) (count at : ℕ) (
     pub fill-again : (r : ℕ) (o : List ℕ) → waiting r o ≡ visited pairs order (count - 1) (at - 1) → Filling pairs root n r (at - 1) o
     fill-again r o e = visited-filling pairs root n order (count - 1) (at - 1) shifted r o e
 
-pub ruleset fillLaws = (fill_start, fill-root, fill-some, fill-few, fill_end, fill-place, fill-less, fill-visits, fill-again)
+pub ruleset fill_laws = (fill_start, fill-root, fill-some, fill-few, fill_end, fill-place, fill-less, fill-visits, fill-again)
 
 -- ---- the entry point
 
@@ -363,4 +363,4 @@ module _ (pairs ps : List ℕ) (hs : List Float) (root : ℕ) (order : List ℕ)
       unfolding postorder_call
       postorder-done o f = rw (eq-eqb _ _ l, ← e, y, f, l)
 
-pub ruleset postorderLaws = (postorder-size, postorder-refused, postorder-fills, postorder-done)
+pub ruleset postorder_laws = (postorder-size, postorder-refused, postorder-fills, postorder-done)

@@ -18,7 +18,7 @@ use Rattle.print.specs.NumberLaws.{hex-next, hex-length, decimal-one, decimal-mo
 
 -- ---- a byte
 
-pub ruleset byteLaws = (byte_inside, byte_past)
+pub ruleset byte_laws = (byte_inside, byte_past)
 
 -- ---- a text, of which the bytes from i on are left
 
@@ -32,7 +32,7 @@ module _ (text d : List ℕ) (p i : ℕ) (w : Written) (inv : write (written d p
   unfolding write
   text-end h = rw (drop_of_length-le text h) at inv
 
-pub ruleset textLaws = (text-next, text-end)
+pub ruleset text_laws = (text-next, text-end)
 
 -- ---- a word, of which so many digits are left
 
@@ -77,7 +77,7 @@ word-own n d text l e w v ev =
     let whole : written text 16 ≡ written (word_text n ++ drop (0 + length (word_text n)) d) (0 + length (word_text n)) = e ∙ write-fits d 0 (word_text n) (omega arith) in
     rw (← append-nil (word_text n), ← none, ← ap (λ (x : Written). x.bytes) whole) ev
 
-pub ruleset wordLaws = (word_next, word_end, word-own)
+pub ruleset word_laws = (word_next, word_end, word-own)
 
 -- ---- a number
 
@@ -100,7 +100,7 @@ pub decimal-two : (w : Written) (n : ℕ) → 10 ≤ n → n < 100 → (d : List
     → v ≡ write_byte (written d p) (digit (n % 10)) → v ≡ write w (decimal_text n)
 decimal-two w n h k d p a v e = decimal-last w n 10 h (lit≤ tt) (omega arith) d p (decimal_digit w (n / 10) (omega arith) (written d p) a) v e
 
-pub ruleset decimalLaws = (digit-put, decimal_digit, decimal-last, decimal-two, lit≤)
+pub ruleset decimal_laws = (digit-put, decimal_digit, decimal-last, decimal-two, lit≤)
 
 -- ---- how many digits
 
@@ -139,4 +139,4 @@ module _ (n rest count : ℕ) (c : Counting n rest count) where
   pub counting-end : rest < 10 → count ≡ length (decimal_text n)
   counting-end h = let l = c.left in let o = digits-one rest h in omega arith
 
-pub ruleset countLaws = (count-one, count-two, count-three, count-four, counting-none, counting-next, counting-fits, counting-end)
+pub ruleset count_laws = (count-one, count-two, count-three, count-four, counting-none, counting-next, counting-fits, counting-end)

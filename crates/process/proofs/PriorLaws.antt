@@ -1,5 +1,5 @@
--- The ways through the tests of a mean and of shapes (`passLaws`), and through `estimates`, `validate` and `is_finite` of the priors
--- (`estimatesLaws`, `validateLaws`, `finiteLaws`). Assumes nothing.
+-- The ways through the tests of a mean and of shapes (`pass_laws`), and through `estimates`, `validate` and `is_finite` of the priors
+-- (`estimates_laws`, `validate_laws`, `finite_laws`). Assumes nothing.
 use mathlib.Core.Path.{◌≡◌}
 use mathlib.Core.Bool.{Bool, true, false}
 use lib.Ieee.{Float, le}
@@ -35,7 +35,7 @@ module _ (x : Shapes) (s t : Float) (h : x ≡ Shapings.Given s t) (a : Bool) (e
   pub shapes-first : a ≡ false → a ≡ both_pass shapely x
   shapes-first g = rw (h, ← ea, g)
 
-pub ruleset passLaws = (within_low, within-not-low, mean-given, shapes-second, shapes-first)
+pub ruleset pass_laws = (within_low, within-not-low, mean-given, shapes-second, shapes-first)
 
 -- ---- `estimates`
 
@@ -43,7 +43,7 @@ pub ruleset passLaws = (within_low, within-not-low, mean-given, shapes-second, s
 pub estimates-at : (p : ProcessPriors) (kind k : Move) → kind ≡ k → (r : Bool) → r ≡ estimates p k → r ≡ estimates p kind
 estimates-at p kind k h r e = rw (h, e)
 
-pub ruleset estimatesLaws = (estimates-at)
+pub ruleset estimates_laws = (estimates-at)
 
 -- ---- `validate`
 
@@ -66,7 +66,7 @@ module _ (p : ProcessPriors) (a : Bool) (ea : a ≡ every_mean (passes positive)
       unfolding priors_call priors_fit
       priors-fit f = rw (← ea, g, ← eb, h, ← ec, f)
 
-pub ruleset validateLaws = (means-bad, shapes-bad, nothing-given, priors-fit)
+pub ruleset validate_laws = (means-bad, shapes-bad, nothing-given, priors-fit)
 
 -- ---- `is_finite`
 
@@ -79,4 +79,4 @@ module _ (p : ProcessPriors) (a : Bool) (ea : a ≡ every_mean (passes finite) p
   unfolding priors_finite
   shapes-finite f b eb = rw (← ea, f, eb)
 
-pub ruleset finiteLaws = (means-infinite, shapes-finite)
+pub ruleset finite_laws = (means-infinite, shapes-finite)

@@ -1,4 +1,4 @@
--- The ways through the test of the lengths (`sizedLaws`), of the whole tree (`strictLaws`), and through `validate` (`entryLaws`). Assumes nothing.
+-- The ways through the test of the lengths (`sized_laws`), of the whole tree (`strict_laws`), and through `validate` (`entry_laws`). Assumes nothing.
 use mathlib.Core.Path.{◌≡◌, refl, sym, ◌∙◌, subst}
 use mathlib.Core.Bool.{Bool, true, false, ◌&&◌, and-true, and-false}
 use mathlib.Core.List.{List}
@@ -29,7 +29,7 @@ module _ (n pairs parents : ℕ) where
   unfolding sizes_fit
   sized-few h = rw (le-leb n 4095 h, eq-eqb n n refl) (simp and-true)
 
-pub ruleset sizedLaws = (sized-many, sized-few)
+pub ruleset sized_laws = (sized-many, sized-few)
 
 -- ---- the whole tree
 
@@ -44,7 +44,7 @@ module _ (pairs ps : List ℕ) (hs : List Float) (root : ℕ) where
   unfolding strict parent height
   strict_in h marks ages families a b c = rw (lt-ltb root (length hs) h, a, b, c)
 
-pub ruleset strictLaws = (strict-out, strict_in)
+pub ruleset strict_laws = (strict-out, strict_in)
 
 -- ---- `validate`
 
@@ -60,4 +60,4 @@ module _ (pairs ps : List ℕ) (hs : List Float) (b : Bool) (e : b ≡ sizes_fit
       let t = tree_of pairs ps hs root in
       sym (valid-fine (length hs) t (strict-valid (length hs) t (fits root) (subst T (sym x ∙ f) tt)))
 
-pub ruleset entryLaws = (entry-lent, entry-fine)
+pub ruleset entry_laws = (entry-lent, entry-fine)

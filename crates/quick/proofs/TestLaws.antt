@@ -1,5 +1,5 @@
--- The ways through a loop that tests the first numbers, and joins the tests (`joinLaws`) or stops at one that fails (`eachLaws`), and through the
--- test of a node and its children (`familyLaws`). Assumes nothing.
+-- The ways through a loop that tests the first numbers, and joins the tests (`join_laws`) or stops at one that fails (`each_laws`), and through the
+-- test of a node and its children (`family_laws`). Assumes nothing.
 use mathlib.Core.Path.{◌≡◌, refl, sym, ◌∙◌}
 use mathlib.Core.Bool.{Bool, true, false, not, ◌&&◌}
 use mathlib.Core.List.{List}
@@ -48,9 +48,9 @@ module _ (test : ℕ → Bool) where
     pub each-end : m ≤ count → count ≤ m → true ≡ every test count
     each-end h k = let z : m ≡ count = omega arith in rw (← z, i)
 
-pub ruleset joinLaws = (join-start, join_step, join-end)
+pub ruleset join_laws = (join-start, join_step, join-end)
 
-pub ruleset eachLaws = (each_start, each_step, each-stop, each-end)
+pub ruleset each_laws = (each_start, each_step, each-stop, each-end)
 
 -- ---- a node and its children
 
@@ -73,4 +73,4 @@ module _ (pairs ps : List ℕ) (hs : List Float) (k : ℕ) where
 pub family-reads : (pairs ps : List ℕ) (hs : List Float) (j : ℕ) → Lent pairs ps hs → j < length hs / 2 → Reads pairs ps hs ((length hs + 1) / 2 + j)
 family-reads pairs ps hs j z h = record { lent = z; node = omega arith }
 
-pub ruleset familyLaws = (family-first-out, family-second-out, family-both)
+pub ruleset family_laws = (family-first-out, family-second-out, family-both)

@@ -24,7 +24,7 @@ module _ (n low : ℕ) where
   pub fair-tested : 1 ≤ n → (threshold : ℕ) → threshold ≡ 2 ^ 64 % n → leb threshold low ≡ fair_low n low
   fair-tested h threshold e = rw (lt-ltb 0 n (omega arith), e)
 
-pub ruleset fairLaws = (fair-zero, fair-large, fair-tested)
+pub ruleset fair_laws = (fair-zero, fair-large, fair-tested)
 
 -- ---- the remainder, which is one more than that of 2 ^ 64 - 1, or none
 
@@ -41,7 +41,7 @@ module _ (n : ℕ) (h : 0 < n) where
   pub threshold-some : ((2 ^ 64 - 1) % n + 1 ≡ n → ⊥) → (2 ^ 64 - 1) % n + 1 ≡ 2 ^ 64 % n
   threshold-some d = let y = mod-lt (2 ^ 64 - 1) h in sym (mod-eq_of_lt (omega arith)) ∙ more
 
-pub ruleset thresholdLaws = (threshold-fits, threshold-none, threshold-some)
+pub ruleset threshold_laws = (threshold-fits, threshold-none, threshold-some)
 
 -- ---- one draw
 
@@ -83,7 +83,7 @@ module _ (n : ℕ) (s₀ : Supply) (g : Random) (left : ℕ) (inv : pick (below 
     pub below_again : b ≡ false → pick (below n) s₀ ≡ pick (below n) (supply_of w.random (left - 1))
     below_again f = inv ∙ again n g left w ew p ep b eb least h f
 
-pub ruleset belowLaws = (below_none, below-found, below_again)
+pub ruleset below_laws = (below_none, below-found, below_again)
 
 -- ---- the loop that passes over another number too
 
@@ -123,4 +123,4 @@ module _ (n base other : ℕ) (s₀ : Supply) (g : Random) (left : ℕ) (inv : p
       unfolding below_other
       other-passed d = inv ∙ until-again test raised (supply_of g left) (base + p.high) next raised-found (rw (eq-eqb (base + p.high) other d))
 
-pub ruleset otherLaws = (other_none, other-unfair, other_fits, other-found, other-passed)
+pub ruleset other_laws = (other_none, other-unfair, other_fits, other-found, other-passed)

@@ -29,4 +29,4 @@ module _ (g : Random) (n allowance : ℕ) (b : Bool) (eb : b ≡ countable n && 
 pub call-left : (g : Random) (n allowance : ℕ) (d : DrawnNumber) → d ≡ drawn_number (supply_of g allowance) (pick (below n) (supply_of g allowance)) → d.ok ≡ true → d.supply.left ≤ allowance
 call-left g n allowance d e t = ((pick-lawful (below n)).steps (supply_of g allowance) d.value d.supply (number-got (supply_of g allowance) d (pick (below n) (supply_of g allowance)) e t)).fewer
 
-pub ruleset callLaws = (call-limits, call-spent, call-drawn, call-left)
+pub ruleset call_laws = (call-limits, call-spent, call-drawn, call-left)

@@ -32,4 +32,4 @@ module _ (g : Random) (d : DrawnWord) (e : d ≡ drawn_word g) where
   unfolding first_side
   drawn-coin = rw e
 
-pub ruleset stepLaws = (drawn-word, drawn-uniform, drawn-coin)
+pub ruleset step_laws = (drawn-word, drawn-uniform, drawn-coin)

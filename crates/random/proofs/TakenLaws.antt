@@ -27,4 +27,4 @@ module _ (s : Supply) where
   unfolding coin
   coin-one d e h = rw e (sym (ap (drawn_side s) (taken-one first_side s.random s.left (omega arith))))
 
-pub ruleset takenLaws = (uniform-none, uniform-one, coin-none, coin-one)
+pub ruleset taken_laws = (uniform-none, uniform-one, coin-none, coin-one)

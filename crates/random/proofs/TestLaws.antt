@@ -17,4 +17,4 @@ module _ (p q a : Bool) (ea : a ≡ p) where
   pub first-fails : a ≡ false → a ≡ p && q
   first-fails f = rw (← ea, f)
 
-pub ruleset testLaws = (not-under, under, first_holds, first-fails)
+pub ruleset test_laws = (not-under, under, first_holds, first-fails)

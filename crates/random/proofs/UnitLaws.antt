@@ -79,4 +79,4 @@ module _ (w : ℕ) (h : Fits w64 w) where
   pub unit-is : (n : Float) → n ≡ of_int binary64 (pos (w / 2 ^ 11)) → mul binary64 n two_to_minus53 ≡ uniform_of w
   unit-is n e = rw e (product-uniform w h.fits)
 
-pub ruleset unitLaws = (raised-read, excess-read, numerator-is, unit-is)
+pub ruleset unit_laws = (raised-read, excess-read, numerator-is, unit-is)

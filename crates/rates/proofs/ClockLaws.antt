@@ -1,5 +1,5 @@
--- The ways through the test of the rates (`positiveLaws`) and of a clock (`clockLaws`), through `new` (`newLaws`), `branch_rate` (`branchLaws`),
--- `set_sigma` (`sigmaLaws`) and `set_rate` (`rateLaws`). Assumes nothing.
+-- The ways through the test of the rates (`positive_laws`) and of a clock (`clock_laws`), through `new` (`new_laws`), `branch_rate` (`branch_laws`),
+-- `set_sigma` (`sigma_laws`) and `set_rate` (`rate_laws`). Assumes nothing.
 use mathlib.Core.Bool.{Bool, true, false, and-false}
 use mathlib.Core.List.{List}
 use mathlib.Core.Path.{◌≡◌, refl, sym, ◌∙◌}
@@ -39,7 +39,7 @@ module _ (rates : List Float) (k : ℕ) (i : every (positive_at rates) k ≡ tru
   pub rates-end : k ≤ length rates → length rates ≤ k → true ≡ every (positive_at rates) (length rates)
   rates-end l m = let e : k ≡ length rates = omega arith in rw (← e, i)
 
-pub ruleset positiveLaws = (rates-start, rates-step, rates-stop, rates-end)
+pub ruleset positive_laws = (rates-start, rates-step, rates-stop, rates-end)
 
 -- ---- a clock
 
@@ -61,7 +61,7 @@ module _ (sigma : Float) (rates : List Float) where
     unfolding clock_fits
     clock-rates h l r w = rw (← e, h, le-leb 2 (length rates) l, w)
 
-pub ruleset clockLaws = (clock-short, clock-sigma, clock-rates)
+pub ruleset clock_laws = (clock-short, clock-sigma, clock-rates)
 
 -- ---- `new`, with c for whether it is a clock
 
@@ -76,7 +76,7 @@ module _ (sigma : Float) (rates : List Float) (c : Bool) (e : c ≡ clock_fits s
   unfolding new_call
   new-refused h = rw (← e, h)
 
-pub ruleset newLaws = (new-fine, new-refused)
+pub ruleset new_laws = (new-fine, new-refused)
 
 -- ---- `branch_rate`
 
@@ -114,7 +114,7 @@ module _ (sigma : Float) (rates : List Float) (node root : ℕ) where
         unfolding branch_rate_call rate_of
         branch-own q = rw (← e, h, le-leb node (length rates) m, le-leb root (length rates) n, ne_eqb node root d, ne_eqb node (length rates) q)
 
-pub ruleset branchLaws = (branch-node-past, branch-root-past, branch-refused, branch-root, branch-last, branch-own)
+pub ruleset branch_laws = (branch-node-past, branch-root-past, branch-refused, branch-root, branch-last, branch-own)
 
 -- ---- `set_sigma`
 
@@ -136,7 +136,7 @@ module _ (sigma : Float) (rates : List Float) (new : Float) (c : Bool) (e : c �
     unfolding set_sigma_call
     sigma-kept p = rw (← e, h, ← w, p)
 
-pub ruleset sigmaLaws = (sigma-refused, sigma_stored, sigma-kept)
+pub ruleset sigma_laws = (sigma-refused, sigma_stored, sigma-kept)
 
 -- ---- `set_rate`
 
@@ -164,4 +164,4 @@ module _ (sigma : Float) (rates : List Float) (index : ℕ) (new : Float) where
       unfolding set_rate_call
       rate-kept p = rw (← e, h, lt-ltb index (length rates) l, ← w, p)
 
-pub ruleset rateLaws = (rate-past, rate_refused, rate-stored, rate-kept)
+pub ruleset rate_laws = (rate-past, rate_refused, rate-stored, rate-kept)

@@ -50,4 +50,4 @@ height-past heights k h x e = e ∙ unread ∙ sym (get_or-eq_default heights na
     unread : of_bits binary64 0x7ff8_0000_0000_0000 ≡ nan
     unread = unfold of_bits in refl
 
-pub ruleset readLaws = (wide16, inner-half, first_past, second_past, second_is, other-second, other-first, parent-past, height-past)
+pub ruleset read_laws = (wide16, inner-half, first_past, second_past, second_is, other-second, other-first, parent-past, height-past)

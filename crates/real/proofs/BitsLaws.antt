@@ -42,4 +42,4 @@ writable nan h = absurd (true≢false (sym nan_differs ∙ h))
 writable (inf s) h = tt
 writable (fin s m e) h = tt
 
-pub ruleset bitsLaws = (infinity-read, nan_pattern, readable, nan-written, writable)
+pub ruleset bits_laws = (infinity-read, nan_pattern, readable, nan-written, writable)

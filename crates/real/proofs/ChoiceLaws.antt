@@ -1,4 +1,4 @@
--- The ways through `is_finite`, `max` and `min` (`choiceLaws`), and through the tests of a float (`testLaws`). Assumes nothing.
+-- The ways through `is_finite`, `max` and `min` (`choice_laws`), and through the tests of a float (`test_laws`). Assumes nothing.
 use mathlib.Core.Path.{◌≡◌, refl, sym}
 use mathlib.Core.Bool.{Bool, true, false}
 use lib.Ieee.{Float, nan, inf, fin, lt, le, neg, of_bits}
@@ -32,7 +32,7 @@ module _ (a b : Float) where
   pub min-first : lt b a ≡ false → a ≡ min_of a b
   min-first h = rw h
 
-pub ruleset choiceLaws = (above, not-above, max-second, max-first, min-second, min-first)
+pub ruleset choice_laws = (above, not-above, max-second, max-first, min-second, min-first)
 
 module _ (x : Float) where
   pub positive-above : lt zero x ≡ true → (b : Bool) → b ≡ finite x → b ≡ positive x
@@ -47,4 +47,4 @@ module _ (x : Float) where
   pub not-negative-not : le zero x ≡ false → le zero x ≡ is_not_negative x
   not-negative-not h = rw h
 
-pub ruleset testLaws = (positive-above, positive-not, not-negative-above, not-negative-not)
+pub ruleset test_laws = (positive-above, positive-not, not-negative-above, not-negative-not)

@@ -116,4 +116,4 @@ module _ (x : Float) where
   unfolding printed_of
   in-thousandths n h k e = rw (h, k, e)
 
-pub ruleset thousandthsLaws = (no-exponent, shift_fits, shift-out, all-out, negative, too_old, in-print, in-thousandths)
+pub ruleset thousandths_laws = (no-exponent, shift_fits, shift-out, all-out, negative, too_old, in-print, in-thousandths)

@@ -1,4 +1,4 @@
--- The one way through an exponent's two's complement (`complementLaws`): raised by 2^31 it is a number that is not below 0, and 2^64 less 2^31 added
+-- The one way through an exponent's two's complement (`complement_laws`): raised by 2^31 it is a number that is not below 0, and 2^64 less 2^31 added
 -- to that wraps to the complement. Assumes nothing.
 use Rattle.std.proofs.Common.{◌≡◌, ℕ, suc, ◌+◌, ◌-◌, ◌%◌, ◌^◌, ◌<◌, T, ℤ, pos, negsuc, ◌+ℤ◌, nat_abs, refl, ap, ◌∙◌, arith, to_z-of_z, w32, w64, Fits, SFits, to_z, of_z, le-ltb}
 use lib.Signed.{mag, non_neg}
@@ -55,4 +55,4 @@ module _ (k : ℤ) (f : SFits w32 k) where
       → r ≡ complement k
   sum_wraps r e = e ∙ ap (λ (x : ℤ). (nat_abs x + 18446744071562067968) % 2 ^ 64) sum_back ∙ wrapped-is k f.sfits
 
-pub ruleset complementLaws = (widens, sum_fits, sum-cast, sum_wraps)
+pub ruleset complement_laws = (widens, sum_fits, sum-cast, sum_wraps)

@@ -1,4 +1,4 @@
--- The ways through the functions that write an answer (`movedLaws`, `unreadyLaws`, `replyLaws`). Assumes nothing.
+-- The ways through the functions that write an answer (`moved_laws`, `unready_laws`, `reply_laws`). Assumes nothing.
 use Rattle.std.proofs.Common.{◌≡◌, ℕ, Bool, true, false, List, ℤ, ap, ◌∙◌}
 use lib.Ieee.{Float, binary64, to_bits}
 use Rattle.answer.specs.Answers.{number_of, detail_of}
@@ -34,7 +34,7 @@ module _ (draws : ℕ) (ratio : Ratio) where
     pub moved-power : (k : ℤ) → ratio ≡ Ratios.Power a k → w ≡ complement k → reply 0 draws 3 v w ≡ moved_reply draws ratio
     moved-power k e q = rw (e, p, q)
 
-pub ruleset movedLaws = (moved-even, moved-counts, moved-lengths, moved-power)
+pub ruleset moved_laws = (moved-even, moved-counts, moved-lengths, moved-power)
 
 -- ---- words that are not ready: b is whether they are a record
 
@@ -47,7 +47,7 @@ module _ (words : List ℕ) (b : Bool) (eb : b ≡ is_record words) where
   unfolding unready
   unready-refused y r after h = rw (← eb, y) h
 
-pub ruleset unreadyLaws = (unready-short, unready-refused)
+pub ruleset unready_laws = (unready-short, unready-refused)
 
 -- ---- what is written: r is the answer code, words are those before, and after those afterwards
 
@@ -100,4 +100,4 @@ module _ (r : ℕ) (words after : List ℕ) where
       unfolding answered
       answer-moved m e between w h = rw e (h ∙ ap (proposed (Proposals.Scaled m.draws m.ratio) g) w)
 
-pub ruleset replyLaws = (refusal_is, verdict-fine, verdict-refused, proposal-refused, proposal-scaled, proposal-declined, answer-refused, answer-declined, answer-moved)
+pub ruleset reply_laws = (refusal_is, verdict-fine, verdict-refused, proposal-refused, proposal-scaled, proposal-declined, answer-refused, answer-declined, answer-moved)

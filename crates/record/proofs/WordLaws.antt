@@ -1,4 +1,4 @@
--- The ways through the functions that read and write words (`wordLaws`). Assumes nothing.
+-- The ways through the functions that read and write words (`word_laws`). Assumes nothing.
 use Rattle.std.proofs.Common.{◌≡◌, ℕ, ◌<◌, ◌≤◌, false, leb, List, [], ◌∷◌, length, get_or, set, sym, refl, ap, ◌∙◌, arith, w32, Fits, le-ltb, lt-ltb, le-leb}
 use lib.ListN.{get_or-eq_default}
 use lib.Seq.{sets}
@@ -46,7 +46,7 @@ module _ (words : List ℕ) where
       → record { root = root; random = g; allowance = a } ≡ given_in words
   given_is root g a p q r = λ i. record { root = p i; random = q i; allowance = r i }
 
-pub ruleset readLaws = (word-missing, real-is, generator-is, allowance-none, allowance-is, allowance-fits, ready-not, ready-under, ready-top, given_is)
+pub ruleset read_laws = (word-missing, real-is, generator-is, allowance-none, allowance-is, allowance-fits, ready-not, ready-under, ready-top, given_is)
 
 -- ---- writing
 
@@ -66,4 +66,4 @@ pub put-generator-is : (g : Random) (words after s : List ℕ) → s ≡ state_o
     → after ≡ sets words 0 (get_or s 0 0 ∷ get_or s 1 0 ∷ get_or s 2 0 ∷ get_or s 3 0 ∷ []) → after ≡ with_generator g words
 put-generator-is g words after s e l h = h ∙ ap (sets words 0) (sym (four s l) ∙ e)
 
-pub ruleset writeLaws = (put-real-is, put-generator-is)
+pub ruleset write_laws = (put-real-is, put-generator-is)

@@ -1,4 +1,4 @@
--- Words that were found to be a record, or one that is ready, have room for what is written (`roomLaws`): before anything is written, and once the
+-- Words that were found to be a record, or one that is ready, have room for what is written (`room_laws`): before anything is written, and once the
 -- generator is. b is what the test said. Assumes nothing.
 use Rattle.std.specs.Prelude.{◌≡◌, ℕ, ◌≤◌, Bool, true, List, length, refl}
 use Rattle.std.proofs.Common.{sym, ◌∙◌, leb-true}
@@ -23,4 +23,4 @@ module _ (words : List ℕ) (b : Bool) (eb : b ≡ is_ready words) (h : b ≡ tr
   pub ready-recorded : 32 ≤ length words
   ready-recorded = recorded words (is_record words) refl ready-is
 
-pub ruleset roomLaws = (recorded, recorded-drawn, ready-recorded)
+pub ruleset room_laws = (recorded, recorded-drawn, ready-recorded)

@@ -1,4 +1,4 @@
--- The ways through the functions that write the answer of a call that asks (`answerLaws`): words are those before, after those afterwards, and r is the
+-- The ways through the functions that write the answer of a call that asks (`answer_laws`): words are those before, after those afterwards, and r is the
 -- answer code. Assumes nothing.
 use mathlib.Core.Path.{◌≡◌, ap, ◌∙◌}
 use mathlib.Core.Bool.{Bool, true, false}
@@ -83,4 +83,4 @@ module _ (words after : List ℕ) (r : ℕ) where
     unfolding sigma_left
     sigma-kept n h = rw (← e, n) h
 
-pub ruleset answerLaws = (rate-given, stored-given, monophyly-given, age-given, rate_refused, stored_refused, monophyly-refused, age-refused, density-refused, density-minus-infinity, density-terms, sigma_stored, sigma-kept)
+pub ruleset answer_laws = (rate-given, stored-given, monophyly-given, age-given, rate_refused, stored_refused, monophyly-refused, age-refused, density-refused, density-minus-infinity, density-terms, sigma_stored, sigma-kept)

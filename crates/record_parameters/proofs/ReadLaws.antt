@@ -1,4 +1,4 @@
--- The ways through the functions that read parameters (`readLaws`). Assumes nothing.
+-- The ways through the functions that read parameters (`read_laws`). Assumes nothing.
 use mathlib.Core.Path.{◌≡◌}
 use mathlib.Core.List.{List}
 use Prim.Native.Nat.{ℕ}
@@ -76,4 +76,4 @@ module _ (words : List ℕ) (n : ℕ) (e : n ≡ node_in words) where
   pub chosen-nothing : (n ≡ 0 → ⊥) → (n ≡ 1 → ⊥) → (n ≡ 2 → ⊥) → (n ≡ 3 → ⊥) → Nothing ≡ chosen_in words
   chosen-nothing a b c d = rw (← e, ne_eqb n 0 a, ne_eqb n 1 b, ne_eqb n 2 c, ne_eqb n 3 d)
 
-pub ruleset readLaws = (optional-missing, optional-given, speciation-yule, speciation-birth-death, shapes-missing, shapes-given, process-is, priors-is, chosen-birth, chosen-death, chosen-sampling, chosen-origin, chosen-nothing)
+pub ruleset read_laws = (optional-missing, optional-given, speciation-yule, speciation-birth-death, shapes-missing, shapes-given, process-is, priors-is, chosen-birth, chosen-death, chosen-sampling, chosen-origin, chosen-nothing)

@@ -1,4 +1,4 @@
--- The ways through the functions that write an answer with its parameters (`writeLaws`). Assumes nothing.
+-- The ways through the functions that write an answer with its parameters (`write_laws`). Assumes nothing.
 use mathlib.Core.Path.{◌≡◌}
 use mathlib.Core.Bool.{Bool, true, false}
 use mathlib.Core.List.{List}
@@ -42,4 +42,4 @@ module _ {P : Type 0} (write : P → List ℕ → List ℕ) (p : Proposal) (g : 
   unfolding proposed_left
   left-kept h f = rw (← e, h) f
 
-pub ruleset writeLaws = (optional-kept, optional-put, yule-put, birth-death-put, left-scaled, left-kept)
+pub ruleset write_laws = (optional-kept, optional-put, yule-put, birth-death-put, left-scaled, left-kept)

@@ -1,5 +1,5 @@
--- The ways through the code that replays: two texts compared (`compareLaws`), a file answered (`fileLaws`), a text of the data (`textLaws`, `placeLaws`),
--- a case (`caseLaws`), and all cases (`casesLaws`, `allLaws`). Assumes nothing.
+-- The ways through the code that replays: two texts compared (`compare_laws`), a file answered (`file_laws`), a text of the data (`text_laws`, `place_laws`),
+-- a case (`case_laws`), and all cases (`cases_laws`, `all_laws`). Assumes nothing.
 use mathlib.Core.Path.{◌≡◌, refl, sym, ap, ◌∙◌, subst}
 use mathlib.Core.List.{List, ◌++◌}
 use Prim.Native.Nat.{ℕ, suc, ◌+◌, ◌-◌, ◌≤◌, ◌<◌}
@@ -53,7 +53,7 @@ module _ (g e : List ℕ) (i : ℕ) (whole : Compared) (inv : compared i (drop i
     unfolding compared
     compare-more d = rw add-one (rw (drop-cons g i 0 h, drop-cons e i 0 k, eq-eqb (get_or g i 0) (get_or e i 0) d) at inv)
 
-pub ruleset compareLaws = (compare-longer, compare-shorter, compare-end, compare-other, compare-more)
+pub ruleset compare_laws = (compare-longer, compare-shorter, compare-end, compare-other, compare-more)
 
 -- ---- a file answered: r bytes of the slice o, which came as out
 
@@ -91,7 +91,7 @@ module _ (room : ℕ) (out text : List ℕ) (long : length out ≡ room) (r : �
   pub file-compared : (x : Compared) (expected : List ℕ) → x ≡ compared 0 (take r o) expected → x ≡ compared 0 (within room text) expected
   file-compared x expected h = rw given.these at h
 
-pub ruleset fileLaws = (file-few, file-long, file-compared)
+pub ruleset file_laws = (file-few, file-long, file-compared)
 
 -- ---- a text of the data, from the place i on
 
@@ -139,7 +139,7 @@ module _ (s key t : List ℕ) (r : Number) (e : numbered s r ≡ entry key (deci
           let l : i + n + 1 ≡ i + suc n = omega arith in
           rw (m, l, ← drop-drop) (shut n (drop i s) (rw length-drop h) (rw get_or-drop b) ∙ whole)
 
-pub ruleset textLaws = (text-unread, text-past, text-cut, text-open, text-there)
+pub ruleset text_laws = (text-unread, text-past, text-cut, text-open, text-there)
 
 -- where it starts and ends
 module _ (s : List ℕ) (r : Span) (a b : ℕ) (h : Inside s r) (e : r ≡ Span.Between a b) where
@@ -152,7 +152,7 @@ module _ (s : List ℕ) (r : Span) (a b : ℕ) (h : Inside s r) (e : r ≡ Span.
   pub text-end : b ≤ length s
   text-end = omega (arith, text-inside)
 
-pub ruleset placeLaws = (text-start, text-end)
+pub ruleset place_laws = (text-start, text-end)
 
 -- ---- a case: f and g are where its file and its answer stand
 
@@ -176,7 +176,7 @@ module _ (s t : List ℕ) (f : Span) (ef : texted s f ≡ counted (bytes "file="
       unfolding replay_case case ◌>>=◌ onward return
       case-alike m = rw (← ef, pf, ← eg, pg, ← er, m)
 
-pub ruleset caseLaws = (case-file, case-answer, case-differs, case-alike)
+pub ruleset case_laws = (case-file, case-answer, case-differs, case-alike)
 
 -- ---- all cases, of which k are alike
 
@@ -216,7 +216,7 @@ module _ (s : List ℕ) (n k i : ℕ) (whole : Outcome) (x : Going s n k i whole
     unfolding proceed
     going_more j m = record { few = omega arith; rest = rw add-one (rw (m, add-one) at opened) }
 
-pub ruleset casesLaws = (going_start, going_end, going-over, going-malformed, going-differs, going_more)
+pub ruleset cases_laws = (going_start, going_end, going-over, going-malformed, going-differs, going_more)
 
 module _ (s : List ℕ) (r : Number) (e : numbered s r ≡ cases_line s) where
   pub all-malformed : r ≡ Number.Malformed → Outcome.Malformed 0 ≡ replayed s
@@ -227,4 +227,4 @@ module _ (s : List ℕ) (r : Number) (e : numbered s r ≡ cases_line s) where
   unfolding replayed
   all-cases n i o m q = q ∙ rw (← e, m)
 
-pub ruleset allLaws = (all-malformed, all-cases)
+pub ruleset all_laws = (all-malformed, all-cases)

@@ -1,4 +1,4 @@
--- The ways through the code that says how long a text is: the parts (`partLaws`) and the answers (`answerLaws`). Assumes nothing.
+-- The ways through the code that says how long a text is: the parts (`part_laws`) and the answers (`answer_laws`). Assumes nothing.
 use mathlib.Core.Path.{◌≡◌, sym}
 use mathlib.Core.List.{List}
 use Prim.Native.Nat.{ℕ, ◌+◌, ◌*◌, ◌<◌}
@@ -57,7 +57,7 @@ module _ (n r : ℕ) (er : r ≡ length (decimal_text n)) where
     pub refused-len : (why : Refusal) → n ≡ number_of why → d ≡ detail_of why → 17 + r + s ≡ length (refused_text why)
     refused-len why en ed = rw (length-refused why, ← en, ← ed, er, es)
 
-pub ruleset partLaws = (ratio-fits, odds-fit, odds-len, heights-fit, tree-fits, tree-len, number_fits, detail-fits, refused-len)
+pub ruleset part_laws = (ratio-fits, odds-fit, odds-len, heights-fit, tree-fits, tree-len, number_fits, detail-fits, refused-len)
 
 -- ---- answers
 
@@ -95,4 +95,4 @@ module _ (n r : ℕ) (e : r ≡ length (decimal_text n)) where
         let k = few.each in
         record { fits = omega arith }
 
-pub ruleset answerLaws = (refused-answer, declined-answer, moved-answer, declined-fits, draws-fit, odds-too, tree-too)
+pub ruleset answer_laws = (refused-answer, declined-answer, moved-answer, declined-fits, draws-fit, odds-too, tree-too)

@@ -59,7 +59,7 @@ pub refused-put : (w a b v : Written) (why : Refusal) (n d : ℕ) → n ≡ numb
 unfolding refused_text line comma write
 refused-put w a b v why n d en ed ea eb ev = rw (← en, ← ed) (line-put w a b v (bytes "answer=refused,") (comma (decimal_text n) (decimal_text d)) ea eb ev)
 
-pub ruleset partLaws = (line-put, random-put, drawn-put, odds-put, tree-put, declined-put, moved-put, refused-put)
+pub ruleset part_laws = (line-put, random-put, drawn-put, odds-put, tree-put, declined-put, moved-put, refused-put)
 
 -- an answer by its kind
 module _ (w v : Written) (answer : Answer) (g : Random) (pairs : List ℕ) (heights : List Float) where
@@ -75,8 +75,8 @@ module _ (w v : Written) (answer : Answer) (g : Random) (pairs : List ℕ) (heig
   unfolding answer_text
   answer-refused why e ev = rw e ev
 
-pub ruleset answerLaws = (answer-moved, answer-declined, answer-refused)
+pub ruleset answer_laws = (answer-moved, answer-declined, answer-refused)
 
 -- ---- a text where it fits
 
-pub ruleset deliverLaws = (deliver-short, deliver-whole)
+pub ruleset deliver_laws = (deliver-short, deliver-whole)

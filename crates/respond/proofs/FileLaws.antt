@@ -53,7 +53,7 @@ module _ (s ps₀ ps qs : List ℕ) (hs₀ hs : List Float) (room : Room ps₀ q
         let q : take n hs ≡ held.tree.heights = ap (take n) (held.shown.heights_held b) ∙ take_at held.tree.heights _ n (held.shown.nodes ∙ sym en) in
         rw held.is (h ∙ (λ i. delivered out (state_reply (state_of head (nodes (p i) (q i))))))
 
-pub ruleset readLaws = (file-wrong, file-large, file-state)
+pub ruleset read_laws = (file-wrong, file-large, file-state)
 
 -- ---- the parts of the room that a tree of n nodes takes
 
@@ -93,7 +93,7 @@ module _ (s : List ℕ) (room : ℕ) (out after : List ℕ) (t : Tried) (e : tri
   pub tried-in : (k : ℕ) → room ≡ k → tried s k out t after
   tried-in k y = subst (λ (x : ℕ). tried s x out t after) y e
 
-pub ruleset triedLaws = (tried-answered, tried-again, tried-whole, tried-in)
+pub ruleset tried_laws = (tried-answered, tried-again, tried-whole, tried-in)
 
 -- ---- the whole file
 
@@ -106,4 +106,4 @@ module _ (limit : ℕ) (s : List ℕ) (out : List ℕ) (d : Delivery) where
   unfolding file_reply
   file-read g h = rw (le-ltb limit (length s) g) h
 
-pub ruleset fileLaws = (file-long, file-read)
+pub ruleset file_laws = (file-long, file-read)

@@ -34,4 +34,4 @@ module _ (k : Kind) (node : ℕ) (tuning : Float) (t : Tree) (g : Random) (allow
   pub tree-scale : k ≡ TreeScale → UnvalidatedCall (Moves.tree_scale tuning) t g allowance c → UnvalidatedCall (move_of k node tuning) t g allowance c
   tree-scale e u = rw e u
 
-pub ruleset makeLaws = (node-height, subtree-slide, narrow-exchange, wide-exchange, wilson-balding, root-scale, tree-scale)
+pub ruleset make_laws = (node-height, subtree-slide, narrow-exchange, wide-exchange, wilson-balding, root-scale, tree-scale)

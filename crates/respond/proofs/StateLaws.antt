@@ -47,4 +47,4 @@ module _ (head : Head) (pairs parents ps : List ℕ) (heights : List Float) (eac
       let c = f.decided n in
       rw (n, ← eg) (h ∙ ap (λ (x : Called). delivered out (called_text x)) c)
 
-pub ruleset stateLaws = (state-refused, state-made)
+pub ruleset state_laws = (state-refused, state-made)

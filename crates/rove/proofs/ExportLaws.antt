@@ -1,4 +1,4 @@
--- The ways through the exported functions: of the generator (`drawLaws`), of the tree (`treeLaws`), and of the moves (`moveLaws`). Each tests first
+-- The ways through the exported functions: of the generator (`draw_laws`), of the tree (`tree_laws`), and of the moves (`move_laws`). Each tests first
 -- whether it was given a record, whose words are `words`; b is what the test said. r is the code returned, and after the words at the end. Assumes
 -- nothing.
 use mathlib.Core.Path.{◌≡◌, ap, ◌∙◌}
@@ -76,7 +76,7 @@ module _ (words : List ℕ) (b : Bool) (eb : b ≡ is_record words) where
       unfolding below_exported
       below-done k a p q d f h = rw (← eb, y, ← e, ← p, ← q, ← f) h
 
-pub ruleset drawLaws = (below-drawn, below-refused, seed-short, next-short, below-short, seed-done, next-done, below-done)
+pub ruleset draw_laws = (below-drawn, below-refused, seed-short, next-short, below-short, seed-done, next-done, below-done)
 
 -- ---- the tree
 
@@ -118,7 +118,7 @@ module _ (words : List ℕ) (b : Bool) (eb : b ≡ is_record words) (pairs paren
       unfolding postorder_exported
       postorder-done order os e h = rw (← eb, y, ← er, ← e, h)
 
-pub ruleset treeLaws = (root-given, root-refused, new-short, validate-short, postorder-short, new-done, validate-done, postorder-done)
+pub ruleset tree_laws = (root-given, root-refused, new-short, validate-short, postorder-short, new-done, validate-done, postorder-done)
 
 -- ---- the moves
 
@@ -175,4 +175,4 @@ module _ (words : List ℕ) (b : Bool) (eb : b ≡ is_record words) (pairs paren
             → left (written r after) ps qs hs ≡ exported (subtree_slide (node_in words) (tuning_in words)) pairs parents heights words
         slide-done k ek e = rw (← es, ← ek) (move-done (subtree_slide k s) e)
 
-pub ruleset moveLaws = (start-given, start-refused, start-short, move-short, start-done, move-done, root-scale-done, tree-scale-done, slide-done)
+pub ruleset move_laws = (start-given, start-refused, start-short, move-short, start-done, move-done, root-scale-done, tree-scale-done, slide-done)

@@ -41,7 +41,7 @@ module _ (words after : List ℕ) (r : ℕ) where
     unfolding taken_left
     taken-room e h = rw e h
 
-pub ruleset answerLaws = (copied-bytes, copied-refused, copied-room, taken-nodes, taken-place, taken-room)
+pub ruleset answer_laws = (copied-bytes, copied-refused, copied-room, taken-nodes, taken-place, taken-room)
 
 module _ (words : List ℕ) (b : Bool) (eb : b ≡ is_record words) where
   module _ (pairs parents : List ℕ) (heights : List Float) (out : List ℕ) where
@@ -64,4 +64,4 @@ module _ (words : List ℕ) (b : Bool) (eb : b ≡ is_record words) where
     unfolding read_exported
     read_done y a ps l e w h = rw (← eb, y, ← e, h)
 
-pub ruleset newickLaws = (write-short, write_done, read_short, read_done)
+pub ruleset newick_laws = (write-short, write_done, read_short, read_done)

@@ -1,4 +1,4 @@
--- The ways through the exported functions that ask, past the test of the record: the clock and the priors (`clockLaws`), and those on a tree (`treeLaws`). r
+-- The ways through the exported functions that ask, past the test of the record: the clock and the priors (`clock_laws`), and those on a tree (`tree_laws`). r
 -- is the code returned, and after the words at the end. Assumes nothing.
 use mathlib.Core.Path.{◌≡◌}
 use mathlib.Core.List.{List}
@@ -55,7 +55,7 @@ module _ (words after : List ℕ) (r : ℕ) where
       unfolding set_left
       set-rate-done k ek x new e w = rw (← es, ← en, ← ek, ← e, w)
 
-pub ruleset clockLaws = (priors-done, clock-done, branch-rate-done, set-sigma-done, set-rate-done)
+pub ruleset clock_laws = (priors-done, clock-done, branch-rate-done, set-sigma-done, set-rate-done)
 
 -- ---- on a tree
 
@@ -93,4 +93,4 @@ module _ (words after : List ℕ) (r : ℕ) (p : FossilizedBirthDeath) (ep : p �
     unfolding aged_left
     propose-age-done g eg a ea c e w = rw (← er, ← ep, ← eg, ← ea, ← e, w)
 
-pub ruleset treeLaws = (yule-done, monophyly-done, age-done, table_done, initialize-done, propose-age-done)
+pub ruleset tree_laws = (yule-done, monophyly-done, age-done, table_done, initialize-done, propose-age-done)

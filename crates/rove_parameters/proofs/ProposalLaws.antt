@@ -1,4 +1,4 @@
--- The ways through the exported proposals, past the test of the record (`proposalLaws`): the call answers p, with the generator h, and leaves v. r is the
+-- The ways through the exported proposals, past the test of the record (`proposal_laws`): the call answers p, with the generator h, and leaves v. r is the
 -- code returned, and after the words at the end. Assumes nothing.
 use mathlib.Core.Path.{◌≡◌, ap}
 use mathlib.Core.List.{List}
@@ -80,4 +80,4 @@ module _ (words after : List ℕ) (r : ℕ) (p : Proposal) (h : Random) (g : Ran
       → Change.proposed p h v ≡ fbd_call f i x o t g a → written r after ≡ proposed_left with_process p h v words → written r after ≡ field_left f words
   field-done f i ei x v ex o eo e w = rw (← ei, ← ex, ← eo, ← et) (done with_process (fbd_call f i x o t) v e w)
 
-pub ruleset proposalLaws = (field-chosen, nothing-chosen, scale-done, clock-rate-done, clock-sigma-done, branch-rate-done, birth-difference-done, birth-rate-done, relative-death-done, field-done)
+pub ruleset proposal_laws = (field-chosen, nothing-chosen, scale-done, clock-rate-done, clock-sigma-done, branch-rate-done, birth-difference-done, birth-rate-done, relative-death-done, field-done)

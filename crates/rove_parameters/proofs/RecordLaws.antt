@@ -1,4 +1,4 @@
--- Every exported function tests first whether it was given a record (`recordLaws`): its words are `words`, and b is what the test said. r is the code
+-- Every exported function tests first whether it was given a record (`record_laws`): its words are `words`, and b is what the test said. r is the code
 -- returned, and after the words at the end. Assumes nothing.
 use mathlib.Core.Path.{◌≡◌}
 use mathlib.Core.Bool.{Bool, true, false}
@@ -23,4 +23,4 @@ module _ (words : List ℕ) (b : Bool) (eb : b ≡ is_record words) where
     pub lent-done : (old new : List Float) (l : Lent) → lent (written r after) new ≡ l → lent (written r after) new ≡ lent_on words old l
     lent-done old new l e = rw (← eb, y) e
 
-pub ruleset recordLaws = (record-short, lent-short, record-done, lent-done)
+pub ruleset record_laws = (record-short, lent-short, record-done, lent-done)

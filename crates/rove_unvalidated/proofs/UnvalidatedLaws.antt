@@ -100,4 +100,4 @@ module _ (words : List ℕ) (b : Bool) (eb : b ≡ is_ready words) (pairs parent
             → UnvalidatedExport (subtree_slide (node_in words) (tuning_in words)) pairs parents heights words (left (written r after) ps qs hs)
         slide-done k ek u = rw (← es, ← ek) (move-done (subtree_slide k s) u)
 
-pub ruleset moveLaws = (start-unready, move-unready, start-done, move-done, root-scale-done, tree-scale-done, slide-done)
+pub ruleset move_laws = (start-unready, move-unready, start-done, move-done, root-scale-done, tree-scale-done, slide-done)

@@ -1,5 +1,5 @@
--- The ways through the exported functions: past the test of the record (`recordLaws`), the draws and the factor (`drawLaws`), the table of moves (`moveLaws`)
--- and the lengths (`lengthLaws`). Their words are `words`, b is what the test said, r is the code returned, and after the words at the end. Assumes nothing.
+-- The ways through the exported functions: past the test of the record (`record_laws`), the draws and the factor (`draw_laws`), the table of moves (`move_laws`)
+-- and the lengths (`length_laws`). Their words are `words`, b is what the test said, r is the code returned, and after the words at the end. Assumes nothing.
 use mathlib.Core.Path.{◌≡◌, ◌∙◌}
 use mathlib.Core.Bool.{Bool, true, false}
 use mathlib.Core.List.{List}
@@ -40,7 +40,7 @@ module _ (words : List ℕ) (b : Bool) (eb : b ≡ is_record words) where
   pub record-done : b ≡ true → (r : ℕ) (after : List ℕ) (w : Written) → written r after ≡ w → written r after ≡ on_record words w
   record-done y r after w e = rw (← eb, y) e
 
-pub ruleset recordLaws = (record-short, record-done)
+pub ruleset record_laws = (record-short, record-done)
 
 -- ---- the draws, of which d is what is drawn and w its word, and the factor
 
@@ -74,7 +74,7 @@ module _ (words after : List ℕ) (r : ℕ) where
       → written r after ≡ value_left w words → written r after ≡ value_left (to_bits binary64 (scaler (tuning_in words) (real_in words 13))) words
   scaler-done s u es eu f ef w ew h = rw (← es, ← eu, ← ef, ← ew) h
 
-pub ruleset drawLaws = (uniform-short, coin-short, uniform-done, coin-done, scaler-done)
+pub ruleset draw_laws = (uniform-short, coin-short, uniform-done, coin-done, scaler-done)
 
 -- ---- the table of moves: n is a move's number, and k the move that it names
 
@@ -131,7 +131,7 @@ module _ (words after : List ℕ) (r : ℕ) where
             → written r after ≡ named_left flag_left (estimates (priors_in words)) (move_in words) words
         estimates-named p ep f = rw (← ep) (is-named flag_left (estimates p) x f h)
 
-pub ruleset moveLaws = (number-within, number_past, flag-given, tuning-given, tuning-missing, nothing-named, tuning-named, fbd-named, tree-named, topology-named, estimates-named)
+pub ruleset move_laws = (number-within, number_past, flag-given, tuning-given, tuning-missing, nothing-named, tuning-named, fbd-named, tree-named, topology-named, estimates-named)
 
 -- ---- lengths
 
@@ -153,4 +153,4 @@ module _ (words after : List ℕ) (r : ℕ) (q : Quantity) where
     pub tree-done : q ≡ tree_length parents heights → written r after ≡ quantity_left (tree_length parents heights) words
     tree-done e = rw (← e) h
 
-pub ruleset lengthLaws = (quantity-given, quantity-refused, branch-done, tree-done)
+pub ruleset length_laws = (quantity-given, quantity-refused, branch-done, tree-done)

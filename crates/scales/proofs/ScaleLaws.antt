@@ -1,4 +1,4 @@
--- The ways through `scale`: its limits (`scalableLaws`), what is settled after a factor (`settleLaws`), the call (`scaleLaws`), and what the other calls share with it (`undrawnLaws`).
+-- The ways through `scale`: its limits (`scalable_laws`), what is settled after a factor (`settle_laws`), the call (`scale_laws`), and what the other calls share with it (`undrawn_laws`).
 -- Assumes nothing.
 use mathlib.Core.Path.{◌≡◌}
 use mathlib.Core.Bool.{Bool, true, false, ◌&&◌}
@@ -45,7 +45,7 @@ module _ (value upper tuning : Float) (allowance : ℕ) (a : Bool) (ea : a ≡ t
       unfolding scale_limits
       scalable-allowance h d ed = rw (← ea, ha, ← eb, hb, ← ec, h, ed)
 
-pub ruleset scalableLaws = (scalable-tuning, scalable-upper, scalable-value, scalable-allowance)
+pub ruleset scalable_laws = (scalable-tuning, scalable-upper, scalable-value, scalable-allowance)
 
 -- ---- after a factor
 
@@ -56,7 +56,7 @@ module _ (admitted : Bool) (new old f : Float) (allowance : ℕ) (s : Supply) wh
   pub settle-declined : admitted ≡ false → record { proposal = Proposals.Declined (allowance - s.left); value = old; random = s.random } ≡ settled admitted new old f allowance s
   settle-declined h = rw h
 
-pub ruleset settleLaws = (settle-scaled, settle-declined)
+pub ruleset settle_laws = (settle-scaled, settle-declined)
 
 -- ---- the call
 
@@ -88,7 +88,7 @@ module _ (value upper tuning : Float) (g : Random) (allowance : ℕ) (a : Bool) 
           settled-call (scale_limits value upper tuning) (scale value upper tuning) value g allowance holds b (mul binary64 value f) f u.supply
           (rw (h, eb) (factored-got tuning (mul binary64 value) (λ x. within Real.zero x upper) (supply_of g allowance) u e k f ef)) r er
 
-pub ruleset scaleLaws = (scale-limits, scale-zero, call-left, scale-spent, scale-settled)
+pub ruleset scale_laws = (scale-limits, scale-zero, call-left, scale-spent, scale-settled)
 
 -- ---- limits of other calls, and answers without a draw
 
@@ -106,4 +106,4 @@ module _ (b : Bool) where
   pub undrawn-refused : b ≡ false → Proposals.Refused (Parameter 0) ≡ undrawn_of b
   undrawn-refused h = rw h
 
-pub ruleset undrawnLaws = (fine-limits, fine-allowance, undrawn-fine, undrawn-refused)
+pub ruleset undrawn_laws = (fine-limits, fine-allowance, undrawn-fine, undrawn-refused)

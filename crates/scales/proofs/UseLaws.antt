@@ -1,5 +1,5 @@
--- The ways through the uses of `scale`: ClockRateScale (`clockRateLaws`) and the scales of speciation (`differenceLaws`,
--- `rateLaws`, `deathLaws`). Assumes nothing.
+-- The ways through the uses of `scale`: ClockRateScale (`clock_rate_laws`) and the scales of speciation (`difference_laws`,
+-- `rate_laws`, `death_laws`). Assumes nothing.
 use mathlib.Core.Path.{◌≡◌, refl, sym, ap, ◌∙◌}
 use mathlib.Core.Bool.{Bool, true, false, not, ◌&&◌}
 use Prim.Native.Nat.{ℕ}
@@ -44,7 +44,7 @@ module _ (mean : Optional) (tuning : Float) (g : Random) (allowance : ℕ) where
   clock-rate-given x e r er =
       rw e (ap (put_in Given) er ∙ sym (value-part Given (scale_limits x largest tuning) (scale x largest tuning) x g allowance))
 
-pub ruleset clockRateLaws = (largest-read, clock-rate-missing, clock-rate-given)
+pub ruleset clock_rate_laws = (largest-read, clock-rate-missing, clock-rate-given)
 
 -- ---- the scales of speciation
 
@@ -133,8 +133,8 @@ module _ (s : Speciation) (tuning : Float) (g : Random) (allowance : ℕ) where
         rw (e, limits)
         (ap (put_in (BirthDeath difference)) er ∙ sym (value-part (BirthDeath difference) (scale_limits death one tuning) (scale death one tuning) death g allowance))
 
-pub ruleset differenceLaws = (difference_yule, difference-outside-limits, difference-scaled)
+pub ruleset difference_laws = (difference_yule, difference-outside-limits, difference-scaled)
 
-pub ruleset rateLaws = (rate-yule, rate-outside-limits, rate-birth-death)
+pub ruleset rate_laws = (rate-yule, rate-outside-limits, rate-birth-death)
 
-pub ruleset deathLaws = (death_yule, death-outside-limits, death-scaled)
+pub ruleset death_laws = (death_yule, death-outside-limits, death-scaled)

@@ -1,4 +1,4 @@
--- The ways through the code of the second call: its limits (`limitLaws`), and the unvalidated call (`callLaws`). i is the node. Assumes nothing.
+-- The ways through the code of the second call: its limits (`limit_laws`), and the unvalidated call (`call_laws`). i is the node. Assumes nothing.
 use mathlib.Core.Path.{◌≡◌, sym, ◌∙◌}
 use mathlib.Core.Bool.{Bool, false, not, ◌&&◌, and-eq-true_iff}
 use mathlib.Core.List.{List, []}
@@ -45,7 +45,7 @@ module _ (pairs : List ℕ) (root i : ℕ) (step : Float) where
     pub limit-step : (i ≡ root → ⊥) → (b : Bool) → b ≡ finite step → b ≡ slidable (tree_of pairs [] [] root) i step
     limit-step d b e = rw (lt-ltb i (nodes_of pairs) h, ne_eqb i root d) e
 
-pub ruleset limitLaws = (limit-node, limit-root, limit-step)
+pub ruleset limit_laws = (limit-node, limit-root, limit-step)
 
 -- ---- the unvalidated call
 
@@ -81,4 +81,4 @@ module _ (pairs parents : List ℕ) (heights : List Float) (root i : ℕ) (step 
       unvalidated-done pairs parents heights root (slidable t i step) limits el allowance v ev (Programs.subtree_slide i step t) g y turn pairs' parents' heights'
       (record { decided = λ w. e.decided (slides w); mild = e.mild }) r er
 
-pub ruleset callLaws = (unvalidated-refused, call-large, call-done)
+pub ruleset call_laws = (unvalidated-refused, call-large, call-done)

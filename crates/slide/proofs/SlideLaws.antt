@@ -1,5 +1,5 @@
 -- The ways through the code of a slide's second call: upwards (`up-stays` and on), downwards past the sibling (`under_none` and on) and not past it
--- (`down-above` and on), and the turn (`turnLaws`). i is the node, p its parent and x the height to which that slides; s is the supply. Assumes nothing.
+-- (`down-above` and on), and the turn (`turn_laws`). i is the node, p its parent and x the height to which that slides; s is the supply. Assumes nothing.
 use mathlib.Core.Path.{◌≡◌, refl, sym, ap, ◌∙◌, subst}
 use mathlib.Core.Bool.{Bool, true, false}
 use mathlib.Core.List.{List, []}
@@ -288,4 +288,4 @@ module _ (pairs parents : List ℕ) (heights : List Float) (root i : ℕ) where
           → Turning (Slidable pairs parents heights root i) (turned step s) t s a
       turn-down w s a e = record { decided = λ g. rw (is-slide s) (e.decided (record { goes = goes g false w; above = is-parent })); mild = e.mild }
 
-pub ruleset turnLaws = (turn-not-finite, turn_up, turn-down)
+pub ruleset turn_laws = (turn-not-finite, turn_up, turn-down)

@@ -1,4 +1,4 @@
--- The ways through the code of a slide's first call: its draws (`drawStartLaws`), the unvalidated call (`startLaws`) and the call (`startCallLaws`).
+-- The ways through the code of a slide's first call: its draws (`draw_start_laws`), the unvalidated call (`start_laws`) and the call (`start_call_laws`).
 -- Assumes nothing.
 use mathlib.Core.Path.{◌≡◌, refl, sym, ap, ◌∙◌}
 use mathlib.Core.Bool.{true, false, true≢false}
@@ -71,7 +71,7 @@ module _ (pairs : List ℕ) (root : ℕ) (s : Supply) (k : DrawnNumber) (ek : k 
       unfolding drawn_start done run
       all-drawn h = rw (after_first, bind-got uniform done u.supply v.value v.supply (real-got u.supply v _ ev h))
 
-pub ruleset drawStartLaws = (node-spent, first-spent, second-spent, all-drawn)
+pub ruleset draw_start_laws = (node-spent, first-spent, second-spent, all-drawn)
 
 -- ---- the unvalidated call
 
@@ -138,7 +138,7 @@ pub start_left : (pairs : List ℕ) (root : ℕ) (g : Random) (allowance : ℕ) 
 start_left pairs root g allowance d e h =
     ((run-lawful (slide_start (tree_of pairs [] [] root))).steps (supply_of g allowance) _ d.supply (start-got (supply_of g allowance) d _ e h)).fewer
 
-pub ruleset startLaws = (start-refused, start-out, start-drawn, start_left)
+pub ruleset start_laws = (start-refused, start-out, start-drawn, start_left)
 
 -- ---- the call
 
@@ -153,4 +153,4 @@ module _ (pairs parents : List ℕ) (heights : List Float) (root : ℕ) (v : Ver
       → r ≡ started_of g (start_call (tree_of pairs parents heights root) g allowance)
   start-done y r e = e ∙ ap (started_of g) (accepted-start (tree_of pairs parents heights root) (tree-accepted pairs parents heights root v ev y) g allowance)
 
-pub ruleset startCallLaws = (start-no-tree, start-done)
+pub ruleset start_call_laws = (start-no-tree, start-done)

@@ -1,4 +1,4 @@
--- The ways through the tips' test (`presentLaws`), the internal heights' sum (`totalLaws`) and the Yule density (`yuleLaws`). Assumes nothing.
+-- The ways through the tips' test (`present_laws`), the internal heights' sum (`total_laws`) and the Yule density (`yule_laws`). Assumes nothing.
 use mathlib.Core.Path.{◌≡◌, refl, sym, ap, ◌∙◌}
 use mathlib.Core.Bool.{Bool, true, false}
 use mathlib.Core.List.{List, []}
@@ -47,7 +47,7 @@ module _ (hs : List Float) where
     pub present-end : length hs - length hs / 2 ≤ k → k ≤ length hs - length hs / 2 → true ≡ every here (tips_of (length hs))
     present-end l u = let z : k ≡ tips_of (length hs) = omega arith in rw (← z) (sym i)
 
-pub ruleset presentLaws = (present-start, present-step, present-stop, present-end)
+pub ruleset present_laws = (present-start, present-step, present-stop, present-end)
 
 -- ---- the internal heights
 
@@ -89,7 +89,7 @@ module _ (hs : List Float) where
         go zero l u = total-tips zero kin k (omega arith) ∙ sym (total-tips zero kin zero (omega arith))
         go (suc n) l u = let z : k ≡ suc n = omega arith in ap (total_to (suc n) kin) z
 
-pub ruleset totalLaws = (total-start, total-step, total-end)
+pub ruleset total_laws = (total-start, total-step, total-end)
 
 -- ---- the density
 
@@ -134,4 +134,4 @@ module _ (pairs parents : List ℕ) (heights : List Float) (root : ℕ) (rate : 
             let z : nodes_of pairs / 2 ≡ tips_of (nodes_of pairs) - 1 = omega arith in
             rw (← e, y, ← ep, h, ← tips, g, total-whole (nodes_of pairs) t (nodes_of pairs), es, long, z)
 
-pub ruleset yuleLaws = (yule-refused, root-inside, yule-rate, yule-tips, yule-terms)
+pub ruleset yule_laws = (yule-refused, root-inside, yule-rate, yule-tips, yule-terms)

@@ -85,7 +85,7 @@ module _ (tips at : ℕ) (s p₀ : List ℕ) (h₀ : List Float) (r : LinesRead)
           first : nodes_for tips ≤ length h₀ → h ≡ map real dates.values ++ drop (nodes_for tips) h₀
           first m = let all : 0 + 1 * c ≡ nodes_for tips = omega arith in dates.held (omega arith) ∙ ap (λ (x : ℕ). map real dates.values ++ drop x h₀) all
 
-pub ruleset treeLaws = (tree-pairs, tree-heights, tree_over, tree_all)
+pub ruleset tree_laws = (tree-pairs, tree-heights, tree_over, tree_all)
 
 -- ---- a file
 
@@ -107,4 +107,4 @@ module _ (s p₀ : List ℕ) (h₀ : List Float) (a : HeadRead) (ea : head_given
         let w : Grown x.tips (tree x.tips 8 (drop at s)) p₀ p h₀ h = subst (λ (y : LinesRead). grown x.tips at s p₀ h₀ y p h) m g in
         record { rest = drop at s; front = sym ea ∙ ap (head_given s) pa; tree = w.tree; is = rw (← ea, pa, w.is); shown = w.shown }
 
-pub ruleset fileLaws = (file-head, file-tree, file-all)
+pub ruleset file_laws = (file-head, file-tree, file-all)

@@ -34,7 +34,7 @@ store-past l i x h = sym (set_out l i x h)
 pub store_both : {B : Type 0} (l m n : List B) (i : ℕ) (x y : B) → m ≡ set l i x → n ≡ set m (i + 1) y → n ≡ set (set l i x) (i + 1) y
 store_both l m n i x y p q = q ∙ ap (λ v. set v (i + 1) y) p
 
-pub ruleset storeLaws = (store-past, store_both)
+pub ruleset store_laws = (store-past, store_both)
 
 -- the place after the first ones, stored
 store-next : {B : Type 0} (p l : List B) (n : ℕ) (x : B) → length p ≡ n → n < length l → set (p ++ drop n l) n x ≡ (p ++ x ∷ []) ++ drop (n + 1) l
@@ -157,7 +157,7 @@ module _ (count first at : ℕ) (s : List ℕ) (from : ℕ) (out₀ : List ℕ) 
               let both : p ≡ ((q ++ a ∷ []) ++ b ∷ []) ++ drop (n + 1 + 1) out₀ = ep ∙ ap (λ (x : List ℕ). set x (n + 1) b) one ∙ store-next (q ++ a ∷ []) out₀ (n + 1) b long' room' in
               both ∙ (λ i. pairs-joined (take from out₀) f.values a b i ++ drop (sym more i) out₀)
 
-pub ruleset pairsLaws = (pairs-none, pairs_end, pairs-wrong, pairs_next)
+pub ruleset pairs_laws = (pairs-none, pairs_end, pairs-wrong, pairs_next)
 
 -- ---- heights
 
@@ -198,7 +198,7 @@ module _ (count first at : ℕ) (s : List ℕ) (out₀ : List Float) where
               let now : o ≡ (q ++ x ∷ []) ++ drop (k + 1) out₀ = eo ∙ ap (λ (l : List Float). set l k x) was ∙ store-next q out₀ k x (length-map f.values real ∙ f.long) (omega arith) in
               now ∙ (λ i. (ap (λ (y : Float). q ++ y ∷ []) ex ∙ sym (heights-more f.values w)) i ++ drop (sym more i) out₀)
 
-pub ruleset heightsLaws = (heights-none, heights-end, heights-wrong, heights-next)
+pub ruleset heights_laws = (heights-none, heights-end, heights-wrong, heights-next)
 
 -- ---- marks, and then pairs
 
@@ -227,7 +227,7 @@ module _ (count : ℕ) (out₀ : List ℕ) (i : ℕ) (out : List ℕ) (m : Marki
         is = ap (λ (x : List ℕ). set x i no_node) m.is ∙ store-next (replicate i no_node) out₀ i no_node (length-replicate {A = ℕ} i no_node) r ∙ ap (λ (x : List ℕ). x ++ drop (i + 1) out₀) (replicate-append-replicate i 1 no_node);
       }
 
-pub ruleset markLaws = (mark-none, mark-room, mark-end, mark-more)
+pub ruleset mark_laws = (mark-none, mark-room, mark-end, mark-more)
 
 module _ (tips at : ℕ) (s out₀ out₁ out : List ℕ) (from count : ℕ) (m : Marked from out₀ out₁) (twice : from ≡ 2 * tips) (c : count ≡ tips - 1) where
   pub plants : (r : LinesRead) → pairs_stored count 8 at s from out₁ r out → planted tips at s out₀ r out
@@ -250,4 +250,4 @@ module _ (tips at : ℕ) (s out₀ out₁ out : List ℕ) (from count : ℕ) (m 
           let rest : drop (from + 2 * count) out₁ ≡ drop (from + 2 * count) out₀ = sym (drop-drop (2 * count) from out₁) ∙ ap (drop (2 * count)) past ∙ drop-drop (2 * count) from out₀ in
           p.held (omega (arith, m.same)) ∙ (λ i. (marks i ++ slots p.values) ++ rest i) ∙ (λ i. (replicate (twice i) no_node ++ slots p.values) ++ drop (all i) out₀)
 
-pub ruleset plantLaws = (plants)
+pub ruleset plant_laws = (plants)

@@ -56,7 +56,7 @@ module _ (s : List ℕ) (a : Number) (ea : numbered s a ≡ edition_line s) wher
 pub draws-fit : (s t : List ℕ) (a : Number) (x i : ℕ) → numbered s a ≡ draws_line t → a ≡ Value x i → Fits w32 x
 draws-fit s t a x i e p = let l = draws-small t x (drop i s) (sym e ∙ ap (numbered s) p) in Fits-under w32 x 4294967296 (omega arith) tt
 
-pub ruleset suppliedLaws = (supplied-edition, supplied-draws, supplied-state, supplied-all, draws-fit)
+pub ruleset supplied_laws = (supplied-edition, supplied-draws, supplied-state, supplied-all, draws-fit)
 
 -- ---- lines 4 to 6
 
@@ -79,7 +79,7 @@ module _ (s t : List ℕ) (m : Named) (em : named s m ≡ move_line t) where
       unfolding onward ◌>>=◌ return line asked
       asked-all w l f n q = rw (q, ← em, pm, ← ea, pa, ← eb, n)
 
-pub ruleset askedLaws = (asked-move, asked-node, asked-tuning, asked-all)
+pub ruleset asked_laws = (asked-move, asked-node, asked-tuning, asked-all)
 
 -- ---- lines 1 to 7
 
@@ -106,4 +106,4 @@ module _ (s : List ℕ) (a : SuppliedRead) (ea : supplied_given s a ≡ supplied
 pub tips-fit : (s t : List ℕ) (a : Number) (x i : ℕ) → numbered s a ≡ tips_line t → a ≡ Value x i → Fits w32 x
 tips-fit s t a x i e p = let l = tips-small t x (drop i s) (sym e ∙ ap (numbered s) p) in Fits-under w32 x 4294967296 (omega arith) tt
 
-pub ruleset headLaws = (head-supplied, head-asked, head-tips, head-all, tips-fit)
+pub ruleset head_laws = (head-supplied, head-asked, head-tips, head-all, tips-fit)

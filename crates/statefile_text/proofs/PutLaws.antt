@@ -62,7 +62,7 @@ module _ (k : Kind) (n : ℕ) (x : Float) (b : Bool) where
   pub bits-untaken : b ≡ takes_tuning k → b ≡ false → 0 ≡ to_bits binary64 (tuning_of (move_of k n x))
   bits-untaken e h = rw (bits_are k n x, ← e, h)
 
-pub ruleset takenLaws = (node-taken, node-untaken, bits-taken, bits-untaken)
+pub ruleset taken_laws = (node-taken, node-untaken, bits-taken, bits-untaken)
 
 -- ---- the lines
 
@@ -88,7 +88,7 @@ module _ (w v : Written) (k : Kind) where
   pub name-tree : k ≡ TreeScale → v ≡ write w (bytes "TreeScale") → v ≡ write w (name_of k)
   name-tree e h = rw e h
 
-pub ruleset nameLaws = (name-node-height, name-slide, name-narrow, name-wide, name-wilson, name-root, name-tree)
+pub ruleset name_laws = (name-node-height, name-slide, name-narrow, name-wide, name-wilson, name-root, name-tree)
 
 module _ (w a b v : Written) where
   pub supplied-put : (draws : ℕ) (words : Words) → a ≡ write w (bytes "edition=1\n") → b ≡ write a (line (bytes "draws=") (decimal_text draws))
@@ -113,4 +113,4 @@ module _ (w a b v : Written) where
   unfolding file_text
   all-put x y pairs heights ea eb ev = write_then w b v _ _ (write_then w a b _ _ ea eb) ev
 
-pub ruleset partLaws = (line-put, supplied-put, asked-put, nodes-put, all-put)
+pub ruleset part_laws = (line-put, supplied-put, asked-put, nodes-put, all-put)

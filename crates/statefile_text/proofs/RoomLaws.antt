@@ -48,7 +48,7 @@ module _ (draws d : ℕ) (ed : d ≡ length (decimal_text draws)) where
         head-len words n x pairs ei en =
             rw (length-supplied draws words, length-asked (move_of k n x), length-tips pairs, kind-is k n x, ← ei, ← en, ← ed, ← em, ← ee, ← et) (omega arith)
 
-pub ruleset headLaws = (draws-fit, name-fits, node-fits, tips-fit, head-len)
+pub ruleset head_laws = (draws-fit, name-fits, node-fits, tips-fit, head-len)
 
 -- ---- the heights
 
@@ -59,7 +59,7 @@ module _ (room : ℕ) (heights : List Float) where
   pub heights-left : length heights ≤ room / 24 → room - 24 * length heights ≡ room - length (heights_text heights)
   heights-left h = rw (length-heights heights)
 
-pub ruleset heightsLaws = (heights-over, heights-left)
+pub ruleset heights_laws = (heights-over, heights-left)
 
 -- ---- the pairs, of which those before node k are taken off
 
@@ -90,7 +90,7 @@ module _ (pairs : List ℕ) (room n k left : ℕ) (c : Taken pairs room n k left
   unfolding pair_lines
   taken-all h = let e : n - k ≡ 0 = omega arith in let l : left - 0 ≡ room - length (pairs_text pairs) = rw e at c.rest in omega arith
 
-pub ruleset takenLaws = (taken_none, taken-place, taken_next, taken-all)
+pub ruleset taken_laws = (taken_none, taken-place, taken_next, taken-all)
 
 -- ---- the whole text
 
@@ -105,7 +105,7 @@ module _ (x : Supplied) (y : Asked) (pairs : List ℕ) (head : ℕ)
       let s = head-some in
       rw (length-file (state_in x y pairs heights)) (omega arith)
 
-pub ruleset allLaws = (head-some, all_left)
+pub ruleset all_laws = (head-some, all_left)
 
 module _ (out text : List ℕ) (left : ℕ) (e : left ≡ suc (length out) - length text) where
   pub file-short : left ≡ 0 → delivery 0 out ≡ delivered out text
@@ -114,4 +114,4 @@ module _ (out text : List ℕ) (left : ℕ) (e : left ≡ suc (length out) - len
   pub file-whole : (left ≡ 0 → ⊥) → (o : List ℕ) (r : ℕ) → written o r ≡ write (written out 0) text → delivery r o ≡ delivered out text
   file-whole z o r h = deliver-whole out text (length text) refl (omega arith) o r h
 
-pub ruleset fileLaws = (file-short, file-whole)
+pub ruleset file_laws = (file-short, file-whole)

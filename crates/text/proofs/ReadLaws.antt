@@ -1,5 +1,5 @@
--- The ways through the readers: a fixed text (`literalLaws`), a table of digits (`tableLaws`), a word (`wordLaws`), a decimal number
--- (`decimalLaws`). In a loop, what its rule says of the text from its place on is what was asked (`whole`). Assumes nothing.
+-- The ways through the readers: a fixed text (`literal_laws`), a table of digits (`table_laws`), a word (`word_laws`), a decimal number
+-- (`decimal_laws`). In a loop, what its rule says of the text from its place on is what was asked (`whole`). Assumes nothing.
 use mathlib.Core.Path.{◌≡◌, refl, sym, ap, ◌∙◌}
 use mathlib.Core.Bool.{Bool, true, false, cond}
 use mathlib.Core.List.{List, [], ◌∷◌}
@@ -61,7 +61,7 @@ module _ (key s : List ℕ) (i j : ℕ) (whole : Parsed Unit) (e : literal (drop
   unfolding literal
   literal-more h k d = rw (next key i h, next s j k, eq-eqb (get_or s j 0) (get_or key i 0) d) at e
 
-pub ruleset literalLaws = (byte-there, byte-other, byte_past, literal-end, literal-past, literal-other, literal-more)
+pub ruleset literal_laws = (byte-there, byte-other, byte_past, literal-end, literal-past, literal-other, literal-more)
 
 -- ---- the table of digits
 
@@ -127,7 +127,7 @@ value_room b l v h = omega (arith, v.long)
 pub value-fits : (b : ℕ) (l : List ℕ) → DigitValues l → b < 256 → Fits w64 (get_or l b 0)
 value-fits b l v h = let u = value-le b in let e = v.right b h in Fits-under w64 (get_or l b 0) 17 (omega arith) tt
 
-pub ruleset tableLaws = (table-low, table-high, filled_none, filled-all, filled-room, filled_more, value-entry, value_room, value-fits)
+pub ruleset table_laws = (table-low, table-high, filled_none, filled-all, filled-room, filled_more, value-entry, value_room, value-fits)
 
 -- ---- a word
 
@@ -191,7 +191,7 @@ hex-fits s at k n d x h g =
 pub hex-fits-less : (s : List ℕ) (at k n d : ℕ) → Hexing s at k n → k < 16 → d < 16 → Fits w64 (n * 16)
 hex-fits-less s at k n d x h g = let a = hex-fits s at k n d x h g in record { fits = omega (arith, a.fits) }
 
-pub ruleset wordLaws = (word-past, word-few, hex-none, hex-end, hex-other, hex-more, hex-fits, hex-fits-less)
+pub ruleset word_laws = (word-past, word-few, hex-none, hex-end, hex-other, hex-more, hex-fits, hex-fits-less)
 
 -- ---- a decimal number
 
@@ -236,7 +236,7 @@ module _ (limit : ℕ) (s : List ℕ) (i n : ℕ) (whole : Parsed ℕ) (x : Coun
 pub byte-wide : (xs : List ℕ) (i : ℕ) → ((j : ℕ) → Fits w8 (get_or xs j 0)) → Fits w64 (get_or xs i 0)
 byte-wide xs i h = Fits-widen tt (h i)
 
-pub ruleset digitsLaws = (decimal-high, decimal-low, byte-wide, count_none, count-end, count-stop, count-digit, count-over, count-more)
+pub ruleset digits_laws = (decimal-high, decimal-low, byte-wide, count_none, count-end, count-stop, count-digit, count-over, count-more)
 
 module _ (limit : ℕ) (s : List ℕ) (at : ℕ) where
   pub decimal-past : length s ≤ at → numbered s Malformed ≡ decimal limit (drop at s)
@@ -257,4 +257,4 @@ module _ (limit : ℕ) (s : List ℕ) (at : ℕ) where
       unfolding decimal
       decimal-digits r f q = q ∙ simp (next s at h, ne_eqb (get_or s at 0) 48 z, sym e ∙ f)
 
-pub ruleset decimalLaws = (decimal-past, decimal-zero, decimal-other, decimal-digits)
+pub ruleset decimal_laws = (decimal-past, decimal-zero, decimal-other, decimal-digits)

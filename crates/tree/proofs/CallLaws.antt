@@ -1,5 +1,5 @@
--- The ways through the code that puts a shape together (`shapeLaws`), judges a given tree (`judgedLaws`) and makes one (`madeLaws`), and what
--- their entry points do with the lengths (`partLaws`, `entryLaws`). Assumes nothing.
+-- The ways through the code that puts a shape together (`shape_laws`), judges a given tree (`judged_laws`) and makes one (`made_laws`), and what
+-- their entry points do with the lengths (`part_laws`, `entry_laws`). Assumes nothing.
 use mathlib.Core.Path.{◌≡◌, refl, sym, ap, ◌∙◌, subst}
 use mathlib.Core.Bool.{Bool, true, false, ◌&&◌, cond}
 use mathlib.Core.List.{List, [], ◌∷◌}
@@ -66,7 +66,7 @@ module _ (pairs ps₀ ps : List ℕ) (r : Verdict) (e : scan_of r ps ≡ scan (l
         unfolding scanned joined
         shape-whole d = let m : length (subtree (length ps) (length ps) pairs k) ≡ length ps = omega arith in rw (← e, y, ← f, z, ← l, eq-eqb _ _ m)
 
-pub ruleset shapeLaws = (shape-stopped, shape-rootless, shape-inside, shape-parts, shape-whole)
+pub ruleset shape_laws = (shape-stopped, shape-rootless, shape-inside, shape-parts, shape-whole)
 
 -- ---- the heights' test reads no pairs
 
@@ -96,7 +96,7 @@ module _ (pairs ps place qs : List ℕ) (hs : List Float) (root : ℕ) (x : Root
       unfolding judged
       judged-dates v q g = (g ∙ dates-are pairs ps hs root) ∙ rw (← e, y, eq-eqb _ _ d, ← f, q)
 
-pub ruleset judgedLaws = (judged-unshaped, judged-root, judged-parents, judged-dates)
+pub ruleset judged_laws = (judged-unshaped, judged-root, judged-parents, judged-dates)
 
 -- ---- a tree is made
 
@@ -117,7 +117,7 @@ module _ (pairs ps place qs : List ℕ) (hs : List Float) (x : Rooted) (e : shap
     unfolding new_from dated
     made-whole ps' z q = rw (← e, y, ← dates-here, z, q)
 
-pub ruleset madeLaws = (made-unshaped, made-misdated, made-whole)
+pub ruleset made_laws = (made-unshaped, made-misdated, made-whole)
 
 -- ---- the lengths, and the place for the parents
 
@@ -180,4 +180,4 @@ module _ (pairs ps : List ℕ) (hs : List Float) (b : Bool) (e : b ≡ sizes_fit
           let n = nodes_of pairs in
           (f ∙ ap (λ (n : ℕ). new_answered ps (new_from pairs hs (shape_of n pairs))) part-long) ∙ rw (is_true (size_fits n pairs hs) fit, eq-eqb _ _ parents-fit)
 
-pub ruleset entryLaws = (entry-size-new, entry-size-validate, part-fits, part-long, part-makes, entry-judged, entry-made)
+pub ruleset entry_laws = (entry-size-new, entry-size-validate, part-fits, part-long, part-makes, entry-judged, entry-made)

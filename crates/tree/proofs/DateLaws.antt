@@ -1,4 +1,4 @@
--- The ways through the code that tests a node's height (`dateLaws`). Assumes nothing.
+-- The ways through the code that tests a node's height (`date_laws`). Assumes nothing.
 use mathlib.Core.Path.{◌≡◌}
 use mathlib.Core.Bool.{true, false}
 use mathlib.Core.List.{List}
@@ -39,4 +39,4 @@ module _ (ps : List ℕ) (hs : List Float) (r k : ℕ) where
         unfolding misdated height parent
         date-orphan d = rw (a, ← finite-test _ a, b, ne_eqb _ _ c, get_or-eq_default hs nan d, le-nan)
 
-pub ruleset dateLaws = (date-negative, date-infinite, date-root, date-ordered, date-above, date-orphan)
+pub ruleset date_laws = (date-negative, date-infinite, date-root, date-ordered, date-above, date-orphan)

@@ -1,4 +1,4 @@
--- The ways through the code that fills the parents: one child (`adoptLaws`), both children of a node (`visitLaws`), all nodes (`scanLaws`).
+-- The ways through the code that fills the parents: one child (`adopt_laws`), both children of a node (`visit_laws`), all nodes (`scan_laws`).
 -- Assumes nothing.
 use mathlib.Core.Path.{◌≡◌, sym, ap, ◌∙◌}
 use mathlib.Core.List.{List}
@@ -34,7 +34,7 @@ module _ (k c : ℕ) (ps : List ℕ) where
   unfolding adopt
   adopt-done a b d = rw (lt-leb _ _ a, ne_eqb _ _ b, eq-eqb _ _ d)
 
-pub ruleset adoptLaws = (adopt-out, adopt-self, adopt-taken, adopt-done)
+pub ruleset adopt_laws = (adopt-out, adopt-self, adopt-taken, adopt-done)
 
 -- ---- both children of a node
 
@@ -64,7 +64,7 @@ module _ (pairs ps : List ℕ) (k : ℕ) where
   unfolding visit
   visit-one i a = rw (le-ltb _ _ i, ne_eqb _ _ a)
 
-pub ruleset visitLaws = (visit-equal, visit-first, visit-both, visit-tip, visit-second, visit-one)
+pub ruleset visit_laws = (visit-equal, visit-first, visit-both, visit-tip, visit-second, visit-one)
 
 -- ---- all nodes
 
@@ -94,4 +94,4 @@ module _ (pairs ps₀ ps : List ℕ) (m : ℕ) where
     pub scan-end : length ps ≤ m → m ≤ length ps → filled ps ≡ scan (length ps₀) pairs (length ps₀)
     scan-end a b = let z : length ps₀ ≡ m = omega arith in rw z (sym (rw z at i))
 
-pub ruleset scanLaws = (scan-start, scan_step, scan-stop, scan-end)
+pub ruleset scan_laws = (scan-start, scan_step, scan-stop, scan-end)

@@ -72,4 +72,4 @@ module _ (ps : List ℕ) where
     root-turn r' h (inl (a, b, e)) = rw e (root-first a b h)
     root-turn r' h (inr (a, e)) = rw e (root-again a)
 
-pub ruleset rootLaws = (root-start, root-second, root_one, root_none)
+pub ruleset root_laws = (root-start, root-second, root_one, root_none)

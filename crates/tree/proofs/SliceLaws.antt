@@ -42,7 +42,7 @@ module _ (a b : List ℕ) where
     pub agree-end : n ≤ m → m ≤ n → true ≡ agree a b n
     agree-end h k = let z : n ≡ m = omega arith in rw z (sym i)
 
-pub ruleset agreeLaws = (agree-start, agree-step, agree-stop, agree-end)
+pub ruleset agree_laws = (agree-start, agree-step, agree-stop, agree-end)
 
 -- ---- one slice into another
 
@@ -68,7 +68,7 @@ module _ (from to : List ℕ) where
     pub copy-end : length from ≤ m → to ≡ from
     copy-end h = ext_get_or 0 to from c.long (λ j b. let l = c.long in c.same j (omega arith))
 
-pub ruleset copyLaws = (copy_start, copy_step, copy-end)
+pub ruleset copy_laws = (copy_start, copy_step, copy-end)
 
 -- ---- the lengths
 
@@ -101,7 +101,7 @@ module _ (n p q h : ℕ) where
           unfolding sizes_fit
           size_fits e = rw (le-leb _ _ a, le-leb _ _ b, eq-eqb _ _ c, eq-eqb _ _ d, eq-eqb _ _ e)
 
-pub ruleset sizeLaws = (size_small, size-large, size-even, size-pairs, size-heights, size_fits)
+pub ruleset size_laws = (size_small, size-large, size-even, size-pairs, size-heights, size_fits)
 
 -- ---- marks
 

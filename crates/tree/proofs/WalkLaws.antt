@@ -38,4 +38,4 @@ module _ (n : ℕ) (pairs : List ℕ) (k : ℕ) where
         let b' : r ≡ l - length (subtree (d - 1) n pairs (second_in pairs k)) = rw add-one at b in
         rw (down-suc d h, lt-ltb _ _ i) (simp (length-append, length-append) (omega arith))
 
-pub ruleset walkLaws = (walk-flat, walk-spent, walk-tip, walk-both, inside-first, inside-second)
+pub ruleset walk_laws = (walk-flat, walk-spent, walk-tip, walk-both, inside-first, inside-second)

@@ -1,5 +1,5 @@
 -- The lowest number at which a test holds, refused. In order: what is said of the first m numbers (`lowest-says`), and so that none is refused exactly where the
--- test fails at each (`lowest-fine`, `fine-lowest`); the numbers looked at one by one, for loops (`lowestLaws`); and that the lowest at which the test holds is
+-- test fails at each (`lowest-fine`, `fine-lowest`); the numbers looked at one by one, for loops (`lowest_laws`); and that the lowest at which the test holds is
 -- the one that is refused (`lowest-is`). Assumes nothing.
 use Rattle.std.specs.Prelude.{◌≡◌, Bool}
 use Rattle.std.proofs.Math.Path.{refl, sym}
@@ -77,4 +77,4 @@ module _ (test : ℕ → Bool) (why : ℕ → Refusal) where
   pub lowest-is : (n k : ℕ) → k < n → test k ≡ true → ((j : ℕ) → j < k → test j ≡ false) → lowest test why n ≡ Refused (why k)
   lowest-is n k K e below = sym (lowest-stop n k (fine-lowest k below) (test k) refl (why k) K e refl)
 
-pub ruleset lowestLaws = (lowest_start, lowest_step, lowest-stop, lowest-end)
+pub ruleset lowest_laws = (lowest_start, lowest_step, lowest-stop, lowest-end)

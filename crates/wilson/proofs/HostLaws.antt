@@ -1,4 +1,4 @@
--- The ways through the draw of a node onto whose branch a parent may go: the test (`hostingLaws`) and the loop (`hostLaws`). Assumes nothing.
+-- The ways through the draw of a node onto whose branch a parent may go: the test (`hosting_laws`) and the loop (`host_laws`). Assumes nothing.
 use mathlib.Core.Path.{◌≡◌}
 use mathlib.Core.Bool.{Bool, true, false}
 use mathlib.Core.List.{List}
@@ -31,7 +31,7 @@ module _ (parents : List ℕ) (heights : List Float) (root i j : ℕ) where
     unfolding hosting parent height
     hosting-taller b x ex q eq y ey = rw (ne_eqb j i a, ne_eqb j root b, ← ex, ← eq, ← ey)
 
-pub ruleset hostingLaws = (hosting-itself, hosting-root, hosting-taller)
+pub ruleset hosting_laws = (hosting-itself, hosting-root, hosting-taller)
 
 -- ---- the loop
 
@@ -53,4 +53,4 @@ module _ (n : ℕ) (t : Tree) (i : ℕ) (s : Supply) (r : DrawnNumber) (e : r �
   pub host-fewer : r.ok ≡ true → r.supply.left < s.left
   host-fewer h = redraw-fewer (hosting t i) (below n) s r e h
 
-pub ruleset hostLaws = (host-spent, host-taken, host-passed, host-fewer)
+pub ruleset host_laws = (host-spent, host-taken, host-passed, host-fewer)

@@ -1,5 +1,5 @@
--- The ways through the move when its nodes are drawn: whether the nodes decline it (`barredLaws`), the ranges and the height
--- (`rangeLaws`), the height drawn (`heightLaws`), and the whole (`ontoLaws`). Assumes nothing.
+-- The ways through the move when its nodes are drawn: whether the nodes decline it (`barred_laws`), the ranges and the height
+-- (`range_laws`), the height drawn (`height_laws`), and the whole (`onto_laws`). Assumes nothing.
 use mathlib.Core.Path.{◌≡◌, sym, ap, ◌∙◌}
 use mathlib.Core.Bool.{Bool, true, false, ◌||◌}
 use mathlib.Core.List.{List, []}
@@ -58,7 +58,7 @@ module _ (parents : List ℕ) (root i j : ℕ) where
         unfolding barred parent
         barred-last d = rw (ne_eqb j root a, ← ep, ne_eqb p root b, ← eq, ne_eqb q p c, ne_eqb j p d)
 
-pub ruleset barredLaws = (barred-j, barred-p, barred-siblings, barred-parent, barred-last)
+pub ruleset barred_laws = (barred-j, barred-p, barred-siblings, barred-parent, barred-last)
 
 -- ---- the ranges and the height
 
@@ -82,7 +82,7 @@ module _ (pairs parents : List ℕ) (heights : List Float) (i j : ℕ) where
   unfolding parent height
   height-on-is q eq upper x y lower eu ex ey el u h eh = rw (eh, el, ex, ey, eu, eq)
 
-pub ruleset rangeLaws = (range-is, new-range-is, old-range-is, height-on-is)
+pub ruleset range_laws = (range-is, new-range-is, old-range-is, height-on-is)
 
 -- ---- a height drawn
 
@@ -160,8 +160,8 @@ module _ (pairs parents : List ℕ) (heights : List Float) (root i j : ℕ) (s s
     unfolding onto
     onto-height f g a q = rw (q.decided (ranged g), ap (λ (x : Ranges). x.declined) (sym e) ∙ f)
 
-pub ruleset heightLaws = (height-none, height-out, height-moved)
+pub ruleset height_laws = (height-none, height-out, height-moved)
 
-pub ruleset rangesLaws = (ranges-barred, ranges-no-new, ranges-old)
+pub ruleset ranges_laws = (ranges-barred, ranges-no-new, ranges-old)
 
-pub ruleset ontoLaws = (onto-declined, onto-height)
+pub ruleset onto_laws = (onto-declined, onto-height)

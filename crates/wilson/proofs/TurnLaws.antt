@@ -62,4 +62,4 @@ module _ (pairs parents : List ℕ) (heights : List Float) (root : ℕ) (s : Sup
       turn-onto v r e =
           e.decided (regrafts v) ∙ ap (turn_of t s) (sym (draw-got (non_root (nodes_of pairs) root) _ s _ _ (number-got s a _ ea h) ∙ draw-got (host (nodes_of pairs) t a.value) _ a.supply _ _ found))
 
-pub ruleset turnLaws = (turn-spent, turn-onto)
+pub ruleset turn_laws = (turn-spent, turn-onto)

@@ -1,6 +1,6 @@
 -- `branches::crossing` meets its contract. Assumes nothing.
 use borrow.Author.Rules.{rules}
-use Rattle.branches.proofs.CrossingLaws.{crossingLaws}
+use Rattle.branches.proofs.CrossingLaws.{crossing_laws}
 use Prim.Native.Nat.{ℕ, ◌<◌}
 use borrow.Fn.Kinds.{In}
 use borrow.Fn.PlainCycle.{Measures, is, falls, and}
@@ -39,7 +39,7 @@ crossing-returns : (t : ℕ) → crossing-lts.Need-returns (
   crossing-below t,
   crossing.Post,
 ) (crossing-at t) crossing.Post
-crossing-returns t c = search (crossingLaws, rules)
+crossing-returns t c = search (crossing_laws, rules)
 
 crossing-returns-2 : (t : ℕ) → crossing-lts.Need-returns-2 (
   height-reads.Asked,
@@ -55,7 +55,7 @@ crossing-returns-2 : (t : ℕ) → crossing-lts.Need-returns-2 (
   crossing-below t,
   crossing.Post,
 ) (crossing-at t) crossing.Post
-crossing-returns-2 t c = search (crossingLaws, rules)
+crossing-returns-2 t c = search (crossing_laws, rules)
 
 crossing-height-requires : (t : ℕ) → crossing-lts.Need-height-requires (
   height-reads.Asked,
@@ -71,7 +71,7 @@ crossing-height-requires : (t : ℕ) → crossing-lts.Need-height-requires (
   crossing-below t,
   crossing.Post,
 ) (crossing-at t) crossing.Post
-crossing-height-requires t c κs = search (crossingLaws, rules)
+crossing-height-requires t c κs = search (crossing_laws, rules)
 
 crossing-sub-meet : (t : ℕ) → crossing-lts.Need-overflow-sub-meet (
   height-reads.Asked,
@@ -87,7 +87,7 @@ crossing-sub-meet : (t : ℕ) → crossing-lts.Need-overflow-sub-meet (
   crossing-below t,
   crossing.Post,
 ) (crossing-at t) crossing.Post
-crossing-sub-meet t c = search (crossingLaws, rules)
+crossing-sub-meet t c = search (crossing_laws, rules)
 
 crossing-meet-requires : (t : ℕ) → crossing-lts.Need-meet-requires (
   height-reads.Asked,
@@ -103,7 +103,7 @@ crossing-meet-requires : (t : ℕ) → crossing-lts.Need-meet-requires (
   crossing-below t,
   crossing.Post,
 ) (crossing-at t) crossing.Post
-crossing-meet-requires t c κs = search (crossingLaws, rules)
+crossing-meet-requires t c κs = search (crossing_laws, rules)
 
 crossing-returns-3 : (t : ℕ) → crossing-lts.Need-returns-3 (
   height-reads.Asked,
@@ -119,7 +119,7 @@ crossing-returns-3 : (t : ℕ) → crossing-lts.Need-returns-3 (
   crossing-below t,
   crossing.Post,
 ) (crossing-at t) crossing.Post
-crossing-returns-3 t c = search (crossingLaws, rules)
+crossing-returns-3 t c = search (crossing_laws, rules)
 
 crossing-is-inner-requires : (t : ℕ) → crossing-lts.Need-is-inner-requires (
   height-reads.Asked,
@@ -135,7 +135,7 @@ crossing-is-inner-requires : (t : ℕ) → crossing-lts.Need-is-inner-requires (
   crossing-below t,
   crossing.Post,
 ) (crossing-at t) crossing.Post
-crossing-is-inner-requires t c κs = search (crossingLaws, rules)
+crossing-is-inner-requires t c κs = search (crossing_laws, rules)
 
 crossing-first-requires : (t : ℕ) → crossing-lts.Need-first-requires (
   height-reads.Asked,
@@ -151,7 +151,7 @@ crossing-first-requires : (t : ℕ) → crossing-lts.Need-first-requires (
   crossing-below t,
   crossing.Post,
 ) (crossing-at t) crossing.Post
-crossing-first-requires t c κs = search (crossingLaws, rules)
+crossing-first-requires t c κs = search (crossing_laws, rules)
 
 crossing-second-requires : (t : ℕ) → crossing-lts.Need-second-requires (
   height-reads.Asked,
@@ -167,7 +167,7 @@ crossing-second-requires : (t : ℕ) → crossing-lts.Need-second-requires (
   crossing-below t,
   crossing.Post,
 ) (crossing-at t) crossing.Post
-crossing-second-requires t c κs = search (crossingLaws, rules)
+crossing-second-requires t c κs = search (crossing_laws, rules)
 
 crossing-sub-crossing : (t : ℕ) → crossing-lts.Need-overflow-sub-crossing (
   height-reads.Asked,
@@ -183,7 +183,7 @@ crossing-sub-crossing : (t : ℕ) → crossing-lts.Need-overflow-sub-crossing (
   crossing-below t,
   crossing.Post,
 ) (crossing-at t) crossing.Post
-crossing-sub-crossing t c = search (crossingLaws, rules)
+crossing-sub-crossing t c = search (crossing_laws, rules)
 
 crossing-sub-crossing-2 : (t : ℕ) → crossing-lts.Need-overflow-sub-crossing-2 (
   height-reads.Asked,
@@ -199,7 +199,7 @@ crossing-sub-crossing-2 : (t : ℕ) → crossing-lts.Need-overflow-sub-crossing-
   crossing-below t,
   crossing.Post,
 ) (crossing-at t) crossing.Post
-crossing-sub-crossing-2 t c = search (crossingLaws, rules)
+crossing-sub-crossing-2 t c = search (crossing_laws, rules)
 
 crossing-crossing-requires : (t : ℕ) → crossing-lts.Need-crossing-requires (
   height-reads.Asked,
@@ -215,7 +215,7 @@ crossing-crossing-requires : (t : ℕ) → crossing-lts.Need-crossing-requires (
   crossing-below t,
   crossing.Post,
 ) (crossing-at t) crossing.Post
-crossing-crossing-requires t c κs = search (crossingLaws, rules)
+crossing-crossing-requires t c κs = search (crossing_laws, rules)
 
 crossing-sub-crossing-3 : (t : ℕ) → crossing-lts.Need-overflow-sub-crossing-3 (
   height-reads.Asked,
@@ -231,7 +231,7 @@ crossing-sub-crossing-3 : (t : ℕ) → crossing-lts.Need-overflow-sub-crossing-
   crossing-below t,
   crossing.Post,
 ) (crossing-at t) crossing.Post
-crossing-sub-crossing-3 t c = search (crossingLaws, rules)
+crossing-sub-crossing-3 t c = search (crossing_laws, rules)
 
 crossing-crossing-requires-2 : (t : ℕ) → crossing-lts.Need-crossing-requires-2 (
   height-reads.Asked,
@@ -247,7 +247,7 @@ crossing-crossing-requires-2 : (t : ℕ) → crossing-lts.Need-crossing-requires
   crossing-below t,
   crossing.Post,
 ) (crossing-at t) crossing.Post
-crossing-crossing-requires-2 t c κs = search (crossingLaws, rules)
+crossing-crossing-requires-2 t c κs = search (crossing_laws, rules)
 
 crossing-returns-4 : (t : ℕ) → crossing-lts.Need-returns-4 (
   height-reads.Asked,
@@ -263,7 +263,7 @@ crossing-returns-4 : (t : ℕ) → crossing-lts.Need-returns-4 (
   crossing-below t,
   crossing.Post,
 ) (crossing-at t) crossing.Post
-crossing-returns-4 t c = search (crossingLaws, rules)
+crossing-returns-4 t c = search (crossing_laws, rules)
 
 crossing-sub-result : (t : ℕ) → crossing-lts.Need-overflow-sub-result (
   height-reads.Asked,
@@ -279,7 +279,7 @@ crossing-sub-result : (t : ℕ) → crossing-lts.Need-overflow-sub-result (
   crossing-below t,
   crossing.Post,
 ) (crossing-at t) crossing.Post
-crossing-sub-result t c = search (crossingLaws, rules)
+crossing-sub-result t c = search (crossing_laws, rules)
 
 crossing-returns-5 : (t : ℕ) → crossing-lts.Need-returns-5 (
   height-reads.Asked,
@@ -295,7 +295,7 @@ crossing-returns-5 : (t : ℕ) → crossing-lts.Need-returns-5 (
   crossing-below t,
   crossing.Post,
 ) (crossing-at t) crossing.Post
-crossing-returns-5 t c = search (crossingLaws, rules)
+crossing-returns-5 t c = search (crossing_laws, rules)
 
 pub +crossing-spec : {M : Type 1} → statement M
 +crossing-spec = close μ-crossing λ t. crossing-lts.spec (

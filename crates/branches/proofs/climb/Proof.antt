@@ -3,7 +3,7 @@ use mathlib.Core.Path.{◌≡◌}
 use Rattle.tree.specs.Given.{dates_in}
 use Rattle.rules.specs.Rules.{climb}
 use borrow.Author.Rules.{rules}
-use Rattle.branches.proofs.ClimbLaws.{climbLaws}
+use Rattle.branches.proofs.ClimbLaws.{climb_laws}
 use Rattle.branches.proofs.climb.Statement.{statement}
 use Rattle.branches.proofs.climb.Tie as tie
 
@@ -14,31 +14,31 @@ abbrev decreases-loop : tie.decreases-loop
 decreases-loop parents heights root x k n at₀ left₀ at left = left
 
 loop-holds : tie.Need-loop-init invariant-loop decreases-loop
-loop-holds c = search (climbLaws, rules)
+loop-holds c = search (climb_laws, rules)
 
 returns : tie.Need-returns invariant-loop decreases-loop
-returns c = search (climbLaws, rules)
+returns c = search (climb_laws, rules)
 
 parent-requires : tie.Need-parent-requires invariant-loop decreases-loop
-parent-requires c κs = search (climbLaws, rules)
+parent-requires c κs = search (climb_laws, rules)
 
 height-requires : tie.Need-height-requires invariant-loop decreases-loop
-height-requires c κs = search (climbLaws, rules)
+height-requires c κs = search (climb_laws, rules)
 
 sub-left : tie.Need-overflow-sub-left invariant-loop decreases-loop
-sub-left c = search (climbLaws, rules)
+sub-left c = search (climb_laws, rules)
 
 loop-less : tie.Need-loop-smaller invariant-loop decreases-loop
-loop-less c = search (climbLaws, rules)
+loop-less c = search (climb_laws, rules)
 
 loop-again : tie.Need-loop-preserved invariant-loop decreases-loop
-loop-again c = search (climbLaws, rules)
+loop-again c = search (climb_laws, rules)
 
 returns-2 : tie.Need-returns-2 invariant-loop decreases-loop
-returns-2 c = search (climbLaws, rules)
+returns-2 c = search (climb_laws, rules)
 
 returns-3 : tie.Need-returns-3 invariant-loop decreases-loop
-returns-3 c = search (climbLaws, rules)
+returns-3 c = search (climb_laws, rules)
 
 pub climb-spec : {M : Type 1} → statement M
 climb-spec =

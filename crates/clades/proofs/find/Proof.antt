@@ -1,7 +1,7 @@
 -- `clades::find` meets its contract. Assumes nothing.
 use Prim.Native.Nat.{◌-◌}
 use lib.ListN.{length}
-use Rattle.clades.proofs.FindLaws.{Finding, findLaws}
+use Rattle.clades.proofs.FindLaws.{Finding, find_laws}
 use borrow.Author.Rules.{rules}
 use Rattle.clades.proofs.find.Statement.{statement}
 use Rattle.clades.proofs.find.Tie as tie
@@ -13,46 +13,46 @@ abbrev decreases-loop : tie.decreases-loop
 decreases-loop pairs members order weights₀ others size at₀ weights at = length order - at
 
 loop-holds : tie.Need-loop-init invariant-loop decreases-loop
-loop-holds c = search (findLaws, rules)
+loop-holds c = search (find_laws, rules)
 
 mul-node : tie.Need-overflow-mul-node invariant-loop decreases-loop
-mul-node c = search (findLaws, rules)
+mul-node c = search (find_laws, rules)
 
 shared-slice-read-node : tie.Need-shared-slice-read-node invariant-loop decreases-loop
-shared-slice-read-node c = search (findLaws, rules)
+shared-slice-read-node c = search (find_laws, rules)
 
 cast-node : tie.Need-overflow-cast-node invariant-loop decreases-loop
-cast-node c = search (findLaws, rules)
+cast-node c = search (find_laws, rules)
 
 weigh-requires : tie.Need-weigh-requires invariant-loop decreases-loop
-weigh-requires c κs = search (findLaws, rules)
+weigh-requires c κs = search (find_laws, rules)
 
 same_length : tie.Need-same-length invariant-loop decreases-loop
-same_length c = search (findLaws, rules)
+same_length c = search (find_laws, rules)
 
 returns : tie.Need-returns invariant-loop decreases-loop
-returns c = search (findLaws, rules)
+returns c = search (find_laws, rules)
 
 mul-weights : tie.Need-overflow-mul-weights invariant-loop decreases-loop
-mul-weights c = search (findLaws, rules)
+mul-weights c = search (find_laws, rules)
 
 slice-write-weights : tie.Need-slice-write-weights invariant-loop decreases-loop
-slice-write-weights c = search (findLaws, rules)
+slice-write-weights c = search (find_laws, rules)
 
 add_at : tie.Need-overflow-add-at invariant-loop decreases-loop
-add_at c = search (findLaws, rules)
+add_at c = search (find_laws, rules)
 
 loop-less : tie.Need-loop-smaller invariant-loop decreases-loop
-loop-less c = search (findLaws, rules)
+loop-less c = search (find_laws, rules)
 
 loop-again : tie.Need-loop-preserved invariant-loop decreases-loop
-loop-again c = search (findLaws, rules)
+loop-again c = search (find_laws, rules)
 
 same-length-2 : tie.Need-same-length-2 invariant-loop decreases-loop
-same-length-2 c = search (findLaws, rules)
+same-length-2 c = search (find_laws, rules)
 
 returns-2 : tie.Need-returns-2 invariant-loop decreases-loop
-returns-2 c = search (findLaws, rules)
+returns-2 c = search (find_laws, rules)
 
 pub find_spec : {M : Type 1} → statement M
 find_spec =

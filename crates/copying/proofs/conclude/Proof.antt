@@ -1,6 +1,6 @@
 -- `copying::conclude` meets its contract. Assumes nothing.
 use borrow.Author.Rules.{rules}
-use Rattle.copying.proofs.TreeLaws.{toldLaws}
+use Rattle.copying.proofs.TreeLaws.{told_laws}
 use Rattle.copying.proofs.conclude.Statement.{statement}
 use Rattle.copying.proofs.conclude.Tie as tie
 
@@ -8,7 +8,7 @@ enum-known-copied : tie.Need-enum-known-copied
 enum-known-copied c = search rules
 
 returns : tie.Need-returns
-returns c = search (toldLaws, rules)
+returns c = search (told_laws, rules)
 
 enum-known-copied-2 : tie.Need-enum-known-copied-2
 enum-known-copied-2 c = search rules
@@ -20,13 +20,13 @@ same_length : tie.Need-same-length
 same_length c = search rules
 
 returns-2 : tie.Need-returns-2
-returns-2 c = search (toldLaws, rules)
+returns-2 c = search (told_laws, rules)
 
 enum_told : tie.Need-enum-told
 enum_told c = search rules
 
 returns-3 : tie.Need-returns-3
-returns-3 c = search (toldLaws, rules)
+returns-3 c = search (told_laws, rules)
 
 pub conclude-spec : {M : Type 1} → statement M
 conclude-spec =

@@ -1,6 +1,6 @@
 -- `copying::copy` meets its contract. Assumes nothing.
 use borrow.Author.Rules.{rules}
-use Rattle.copying.proofs.FileLaws.{fileLaws}
+use Rattle.copying.proofs.FileLaws.{file_laws}
 use Rattle.copying.proofs.copy.Statement.{statement}
 use Rattle.copying.proofs.copy.Tie as tie
 
@@ -11,7 +11,7 @@ same_length : tie.Need-same-length
 same_length c = search rules
 
 returns : tie.Need-returns
-returns c = search (fileLaws, rules)
+returns c = search (file_laws, rules)
 
 copy-file-requires : tie.Need-copy-file-requires
 copy-file-requires c κs = search rules
@@ -20,7 +20,7 @@ same-length-2 : tie.Need-same-length-2
 same-length-2 c = search rules
 
 returns-2 : tie.Need-returns-2
-returns-2 c = search (fileLaws, rules)
+returns-2 c = search (file_laws, rules)
 
 pub copy_spec : {M : Type 1} → statement M
 copy_spec =

@@ -3,7 +3,7 @@ use mathlib.Core.Path.{sym}
 use native.Mathlib.Omega.{arith}
 use lib.Seq.{length-take-le}
 use borrow.Author.Rules.{rules}
-use Rattle.copying.proofs.FileLaws.{readLaws, parts-each}
+use Rattle.copying.proofs.FileLaws.{read_laws, parts-each}
 use Rattle.copying.proofs.copy_file.Statement.{statement}
 use Rattle.copying.proofs.copy_file.Tie as tie
 
@@ -35,7 +35,7 @@ same_length : tie.Need-same-length
 same_length c = search rules
 
 returns : tie.Need-returns
-returns c = search (readLaws, rules)
+returns c = search (read_laws, rules)
 
 enum-known-read-2 : tie.Need-enum-known-read-2
 enum-known-read-2 c = search rules
@@ -50,7 +50,7 @@ same-length-2 : tie.Need-same-length-2
 same-length-2 c = search rules
 
 returns-2 : tie.Need-returns-2
-returns-2 c = search (readLaws, rules)
+returns-2 c = search (read_laws, rules)
 
 add-m : tie.Need-overflow-add-m
 add-m c = search rules
@@ -86,7 +86,7 @@ same-length-3 : tie.Need-same-length-3
 same-length-3 c = search rules
 
 returns-3 : tie.Need-returns-3
-returns-3 c = search (readLaws, rules)
+returns-3 c = search (read_laws, rules)
 
 pub copy-file-spec : {M : Type 1} → statement M
 copy-file-spec =

@@ -1,6 +1,6 @@
 -- `copying::copy_tree` meets its contract. Assumes nothing.
 use borrow.Author.Rules.{rules}
-use Rattle.copying.proofs.TreeLaws.{treeLaws}
+use Rattle.copying.proofs.TreeLaws.{tree_laws}
 use Rattle.copying.proofs.copy_tree.Statement.{statement}
 use Rattle.copying.proofs.copy_tree.Tie as tie
 
@@ -20,13 +20,13 @@ same-length-2 : tie.Need-same-length-2
 same-length-2 c = search rules
 
 returns : tie.Need-returns
-returns c = search (treeLaws, rules)
+returns c = search (tree_laws, rules)
 
 enum-known-rooted-2 : tie.Need-enum-known-rooted-2
 enum-known-rooted-2 c = search rules
 
 copy-accepted-requires : tie.Need-copy-accepted-requires
-copy-accepted-requires c κs = search (treeLaws, rules)
+copy-accepted-requires c κs = search (tree_laws, rules)
 
 same-length-3 : tie.Need-same-length-3
 same-length-3 c = search rules
@@ -35,7 +35,7 @@ same-length-4 : tie.Need-same-length-4
 same-length-4 c = search rules
 
 returns-2 : tie.Need-returns-2
-returns-2 c = search (treeLaws, rules)
+returns-2 c = search (tree_laws, rules)
 
 pub copy-tree-spec : {M : Type 1} → statement M
 copy-tree-spec =

@@ -1,41 +1,41 @@
 -- `dating::propose_age` meets its contract. Assumes nothing.
 use borrow.Author.Rules.{rules}
-use Rattle.dating.proofs.TipAgeLaws.{proposeLaws}
+use Rattle.dating.proofs.TipAgeLaws.{propose_laws}
 use Rattle.dating.proofs.propose_age.Statement.{statement}
 use Rattle.dating.proofs.propose_age.Tie as tie
 
 is-limited-requires : tie.Need-is-limited-requires
-is-limited-requires c κs = search (proposeLaws, rules)
+is-limited-requires c κs = search (propose_laws, rules)
 
 check-requires : tie.Need-check-requires
-check-requires c κs = search (proposeLaws, rules)
+check-requires c κs = search (propose_laws, rules)
 
 enum-known-why : tie.Need-enum-known-why
-enum-known-why c = search (proposeLaws, rules)
+enum-known-why c = search (propose_laws, rules)
 
 refuse-requires : tie.Need-refuse-requires
-refuse-requires c κs = search (proposeLaws, rules)
+refuse-requires c κs = search (propose_laws, rules)
 
 same_length : tie.Need-same-length
-same_length c = search (proposeLaws, rules)
+same_length c = search (propose_laws, rules)
 
 returns : tie.Need-returns
-returns c = search (proposeLaws, rules)
+returns c = search (propose_laws, rules)
 
 enum_told : tie.Need-enum-told
-enum_told c = search (proposeLaws, rules)
+enum_told c = search (propose_laws, rules)
 
 propose-age-turn-requires : tie.Need-propose-age-turn-requires
-propose-age-turn-requires c κs = search (proposeLaws, rules)
+propose-age-turn-requires c κs = search (propose_laws, rules)
 
 answer-requires : tie.Need-answer-requires
-answer-requires c κs = search (proposeLaws, rules)
+answer-requires c κs = search (propose_laws, rules)
 
 same-length-2 : tie.Need-same-length-2
-same-length-2 c = search (proposeLaws, rules)
+same-length-2 c = search (propose_laws, rules)
 
 returns-2 : tie.Need-returns-2
-returns-2 c = search (proposeLaws, rules)
+returns-2 c = search (propose_laws, rules)
 
 pub propose-age-spec : {M : Type 1} → statement M
 propose-age-spec =

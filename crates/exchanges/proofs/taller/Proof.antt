@@ -1,26 +1,26 @@
 -- `exchanges::taller` meets its contract. Assumes nothing.
 use borrow.Author.Rules.{rules}
-use Rattle.exchanges.proofs.GrandLaws.{kinLaws}
+use Rattle.exchanges.proofs.GrandLaws.{kin_laws}
 use Rattle.exchanges.proofs.taller.Statement.{statement}
 use Rattle.exchanges.proofs.taller.Tie as tie
 
 first-requires : tie.Need-first-requires
-first-requires c κs = search (kinLaws, rules)
+first-requires c κs = search (kin_laws, rules)
 
 second-requires : tie.Need-second-requires
-second-requires c κs = search (kinLaws, rules)
+second-requires c κs = search (kin_laws, rules)
 
 height-requires : tie.Need-height-requires
-height-requires c κs = search (kinLaws, rules)
+height-requires c κs = search (kin_laws, rules)
 
 height-requires-2 : tie.Need-height-requires-2
-height-requires-2 c κs = search (kinLaws, rules)
+height-requires-2 c κs = search (kin_laws, rules)
 
 returns : tie.Need-returns
-returns c = search (kinLaws, rules)
+returns c = search (kin_laws, rules)
 
 returns-2 : tie.Need-returns-2
-returns-2 c = search (kinLaws, rules)
+returns-2 c = search (kin_laws, rules)
 
 pub taller-spec : {M : Type 1} → statement M
 taller-spec =

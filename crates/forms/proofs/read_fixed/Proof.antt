@@ -1,5 +1,5 @@
 -- `forms::read_fixed` meets its contract. Assumes nothing.
-use Rattle.forms.proofs.LineLaws.{fixedLaws}
+use Rattle.forms.proofs.LineLaws.{fixed_laws}
 use borrow.Author.Rules.{rules}
 use Rattle.forms.proofs.read_fixed.Statement.{statement}
 use Rattle.forms.proofs.read_fixed.Tie as tie
@@ -14,10 +14,10 @@ enum_told : tie.Need-enum-told
 enum_told c = search rules
 
 returns : tie.Need-returns
-returns c = search (fixedLaws, rules)
+returns c = search (fixed_laws, rules)
 
 returns-2 : tie.Need-returns-2
-returns-2 c = search (fixedLaws, rules)
+returns-2 c = search (fixed_laws, rules)
 
 pub read-fixed-spec : {M : Type 1} → statement M
 read-fixed-spec =

@@ -1,6 +1,6 @@
 -- `forms::read_generator` meets its contract. Assumes nothing.
 use Rattle.forms.specs.Forms.{state_line}
-use Rattle.forms.proofs.LineLaws.{valueLaws}
+use Rattle.forms.proofs.LineLaws.{value_laws}
 use borrow.Author.Rules.{rules}
 use Rattle.forms.proofs.read_generator.Statement.{statement}
 use Rattle.forms.proofs.read_generator.Tie as tie
@@ -19,7 +19,7 @@ enum_told c = search rules
 
 returns : tie.Need-returns
 unfolding state_line
-returns c = search (valueLaws, rules)
+returns c = search (value_laws, rules)
 
 read-words-requires : tie.Need-read-words-requires
 read-words-requires c κs = search rules
@@ -32,7 +32,7 @@ enum-told-2 c = search rules
 
 returns-2 : tie.Need-returns-2
 unfolding state_line
-returns-2 c = search (valueLaws, rules)
+returns-2 c = search (value_laws, rules)
 
 read-byte-requires : tie.Need-read-byte-requires
 read-byte-requires c κs = search rules
@@ -45,11 +45,11 @@ enum-told-3 c = search rules
 
 returns-3 : tie.Need-returns-3
 unfolding state_line
-returns-3 c = search (valueLaws, rules)
+returns-3 c = search (value_laws, rules)
 
 returns-4 : tie.Need-returns-4
 unfolding state_line
-returns-4 c = search (valueLaws, rules)
+returns-4 c = search (value_laws, rules)
 
 pub read-generator-spec : {M : Type 1} → statement M
 read-generator-spec =

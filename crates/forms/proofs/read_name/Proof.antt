@@ -1,5 +1,5 @@
 -- `forms::read_name` meets its contract. Assumes nothing.
-use Rattle.forms.proofs.LineLaws.{nameLaws}
+use Rattle.forms.proofs.LineLaws.{name_laws}
 use borrow.Author.Rules.{rules}
 use Rattle.forms.proofs.read_name.Statement.{statement}
 use Rattle.forms.proofs.read_name.Tie as tie
@@ -14,7 +14,7 @@ enum-known-i : tie.Need-enum-known-i
 enum-known-i c = search rules
 
 returns : tie.Need-returns
-returns c = search (nameLaws, rules) depth 7
+returns c = search (name_laws, rules) depth 7
 
 enum_told : tie.Need-enum-told
 enum_told c = search rules
@@ -29,7 +29,7 @@ enum-known-i-2 : tie.Need-enum-known-i-2
 enum-known-i-2 c = search rules
 
 returns-2 : tie.Need-returns-2
-returns-2 c = search (nameLaws, rules) depth 7
+returns-2 c = search (name_laws, rules) depth 7
 
 enum-told-2 : tie.Need-enum-told-2
 enum-told-2 c = search rules
@@ -44,7 +44,7 @@ enum-known-i-3 : tie.Need-enum-known-i-3
 enum-known-i-3 c = search rules
 
 returns-3 : tie.Need-returns-3
-returns-3 c = search (nameLaws, rules) depth 7
+returns-3 c = search (name_laws, rules) depth 7
 
 enum-told-3 : tie.Need-enum-told-3
 enum-told-3 c = search rules
@@ -59,7 +59,7 @@ enum-known-i-4 : tie.Need-enum-known-i-4
 enum-known-i-4 c = search rules
 
 returns-4 : tie.Need-returns-4
-returns-4 c = search (nameLaws, rules) depth 7
+returns-4 c = search (name_laws, rules) depth 7
 
 enum-told-4 : tie.Need-enum-told-4
 enum-told-4 c = search rules
@@ -68,7 +68,7 @@ read-later-name-requires : tie.Need-read-later-name-requires
 read-later-name-requires c κs = search rules
 
 returns-5 : tie.Need-returns-5
-returns-5 c = search (nameLaws, rules) depth 7
+returns-5 c = search (name_laws, rules) depth 7
 
 pub read-name-spec : {M : Type 1} → statement M
 read-name-spec =

@@ -1,5 +1,5 @@
 -- `forms::read_number_line` meets its contract. Assumes nothing.
-use Rattle.forms.proofs.LineLaws.{keyLaws}
+use Rattle.forms.proofs.LineLaws.{key_laws}
 use borrow.Author.Rules.{rules}
 use Rattle.forms.proofs.read_number_line.Statement.{statement}
 use Rattle.forms.proofs.read_number_line.Tie as tie
@@ -14,7 +14,7 @@ enum_told : tie.Need-enum-told
 enum_told c = search rules
 
 returns : tie.Need-returns
-returns c = search (keyLaws, rules)
+returns c = search (key_laws, rules)
 
 read-decimal-requires : tie.Need-read-decimal-requires
 read-decimal-requires c κs = search rules
@@ -23,7 +23,7 @@ end-line-requires : tie.Need-end-line-requires
 end-line-requires c κs = search rules
 
 returns-2 : tie.Need-returns-2
-returns-2 c = search (keyLaws, rules)
+returns-2 c = search (key_laws, rules)
 
 pub read-number-line-spec : {M : Type 1} → statement M
 read-number-line-spec =

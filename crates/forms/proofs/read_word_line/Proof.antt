@@ -1,5 +1,5 @@
 -- `forms::read_word_line` meets its contract. Assumes nothing.
-use Rattle.forms.proofs.LineLaws.{keyLaws}
+use Rattle.forms.proofs.LineLaws.{key_laws}
 use borrow.Author.Rules.{rules}
 use Rattle.forms.proofs.read_word_line.Statement.{statement}
 use Rattle.forms.proofs.read_word_line.Tie as tie
@@ -14,7 +14,7 @@ enum_told : tie.Need-enum-told
 enum_told c = search rules
 
 returns : tie.Need-returns
-returns c = search (keyLaws, rules)
+returns c = search (key_laws, rules)
 
 read-word-requires : tie.Need-read-word-requires
 read-word-requires c κs = search rules
@@ -23,7 +23,7 @@ end-line-requires : tie.Need-end-line-requires
 end-line-requires c κs = search rules
 
 returns-2 : tie.Need-returns-2
-returns-2 c = search (keyLaws, rules)
+returns-2 c = search (key_laws, rules)
 
 pub read-word-line-spec : {M : Type 1} → statement M
 read-word-line-spec =

@@ -1,5 +1,5 @@
 -- `forms::read_words` meets its contract. Assumes nothing.
-use Rattle.forms.proofs.LineLaws.{wordsLaws}
+use Rattle.forms.proofs.LineLaws.{words_laws}
 use borrow.Author.Rules.{rules}
 use Rattle.forms.proofs.read_words.Statement.{statement}
 use Rattle.forms.proofs.read_words.Tie as tie
@@ -14,7 +14,7 @@ enum_told : tie.Need-enum-told
 enum_told c = search rules
 
 returns : tie.Need-returns
-returns c = search (wordsLaws, rules)
+returns c = search (words_laws, rules)
 
 read-next-word-requires : tie.Need-read-next-word-requires
 read-next-word-requires c κs = search rules
@@ -26,7 +26,7 @@ enum-told-2 : tie.Need-enum-told-2
 enum-told-2 c = search rules
 
 returns-2 : tie.Need-returns-2
-returns-2 c = search (wordsLaws, rules)
+returns-2 c = search (words_laws, rules)
 
 read-next-word-requires-2 : tie.Need-read-next-word-requires-2
 read-next-word-requires-2 c κs = search rules
@@ -38,7 +38,7 @@ enum-told-3 : tie.Need-enum-told-3
 enum-told-3 c = search rules
 
 returns-3 : tie.Need-returns-3
-returns-3 c = search (wordsLaws, rules)
+returns-3 c = search (words_laws, rules)
 
 read-next-word-requires-3 : tie.Need-read-next-word-requires-3
 read-next-word-requires-3 c κs = search rules
@@ -50,10 +50,10 @@ enum-told-4 : tie.Need-enum-told-4
 enum-told-4 c = search rules
 
 returns-4 : tie.Need-returns-4
-returns-4 c = search (wordsLaws, rules)
+returns-4 c = search (words_laws, rules)
 
 returns-5 : tie.Need-returns-5
-returns-5 c = search (wordsLaws, rules)
+returns-5 c = search (words_laws, rules)
 
 pub read-words-spec : {M : Type 1} → statement M
 read-words-spec =

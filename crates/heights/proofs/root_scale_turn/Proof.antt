@@ -1,37 +1,37 @@
 -- `heights::root_scale_turn` meets its contract. Assumes nothing.
 use borrow.Author.Rules.{rules}
-use Rattle.heights.proofs.MildLaws.{heightsMildLaws}
-use Rattle.heights.proofs.RangeLaws.{kinLaws}
-use Rattle.heights.proofs.RootScaleLaws.{rootScaleLaws, root_declined, root-moved}
+use Rattle.heights.proofs.MildLaws.{heights_mild_laws}
+use Rattle.heights.proofs.RangeLaws.{kin_laws}
+use Rattle.heights.proofs.RootScaleLaws.{root_scale_laws, root_declined, root-moved}
 use Rattle.heights.proofs.root_scale_turn.Statement.{statement}
 use Rattle.heights.proofs.root_scale_turn.Tie as tie
 
 uniform-requires : tie.Need-uniform-requires
-uniform-requires c κs = search (kinLaws, rootScaleLaws, rules)
+uniform-requires c κs = search (kin_laws, root_scale_laws, rules)
 
 has-children-requires : tie.Need-has-children-requires
-has-children-requires c κs = search (kinLaws, rootScaleLaws, rules)
+has-children-requires c κs = search (kin_laws, root_scale_laws, rules)
 
 scaler-requires : tie.Need-scaler-requires
-scaler-requires c κs = search (kinLaws, rootScaleLaws, rules)
+scaler-requires c κs = search (kin_laws, root_scale_laws, rules)
 
 mul-x : tie.Need-overflow-mul-x
-mul-x c = search (kinLaws, rootScaleLaws, rules)
+mul-x c = search (kin_laws, root_scale_laws, rules)
 
 slice-read-x : tie.Need-slice-read-x
-slice-read-x c = search (kinLaws, rootScaleLaws, rules)
+slice-read-x c = search (kin_laws, root_scale_laws, rules)
 
 is-finite-requires : tie.Need-is-finite-requires
-is-finite-requires c κs = search (kinLaws, rootScaleLaws, rules)
+is-finite-requires c κs = search (kin_laws, root_scale_laws, rules)
 
 floor-requires : tie.Need-floor-requires
-floor-requires c κs = search (kinLaws, rootScaleLaws, rules)
+floor-requires c κs = search (kin_laws, root_scale_laws, rules)
 
 stay-requires : tie.Need-stay-requires
-stay-requires c κs = search (kinLaws, rootScaleLaws, rules)
+stay-requires c κs = search (kin_laws, root_scale_laws, rules)
 
 same_length : tie.Need-same-length
-same_length c = search (kinLaws, rootScaleLaws, rules)
+same_length c = search (kin_laws, root_scale_laws, rules)
 
 returns : tie.Need-returns
 returns c = record {
@@ -43,17 +43,17 @@ returns c = record {
       let u = w.before.before in
       root_declined _ _ _ _ _ _ u.uniform.result u.uniform.ensures w.if1.true f.scaler.result f.scaler.ensures b.is_finite.result
       b.is_finite.ensures l.before.before.if3.true l.floor.result l.floor.ensures c.before.if4.true c.stay.result c.stay.ensures);
-  mild = search (heightsMildLaws, rules);
+  mild = search (heights_mild_laws, rules);
 }
 
 mul-heights : tie.Need-overflow-mul-heights
-mul-heights c = search (kinLaws, rootScaleLaws, rules)
+mul-heights c = search (kin_laws, root_scale_laws, rules)
 
 slice-write-heights : tie.Need-slice-write-heights
-slice-write-heights c = search (kinLaws, rootScaleLaws, rules)
+slice-write-heights c = search (kin_laws, root_scale_laws, rules)
 
 same-length-2 : tie.Need-same-length-2
-same-length-2 c = search (kinLaws, rootScaleLaws, rules)
+same-length-2 c = search (kin_laws, root_scale_laws, rules)
 
 returns-2 : tie.Need-returns-2
 returns-2 c = record {
@@ -65,26 +65,26 @@ returns-2 c = record {
       let u = w.before.before in
       root-moved _ _ _ _ _ _ u.uniform.result u.uniform.ensures w.if1.true f.scaler.result f.scaler.ensures b.is_finite.result
       b.is_finite.ensures l.before.before.if3.true l.floor.result l.floor.ensures c.if4.false);
-  mild = search (heightsMildLaws, rules);
+  mild = search (heights_mild_laws, rules);
 }
 
 same-length-3 : tie.Need-same-length-3
-same-length-3 c = search (kinLaws, rootScaleLaws, rules)
+same-length-3 c = search (kin_laws, root_scale_laws, rules)
 
 returns-3 : tie.Need-returns-3
-returns-3 c = record { decided = λ v. search (kinLaws, rootScaleLaws, rules); mild = search (heightsMildLaws, rules) }
+returns-3 c = record { decided = λ v. search (kin_laws, root_scale_laws, rules); mild = search (heights_mild_laws, rules) }
 
 stay-requires-2 : tie.Need-stay-requires-2
-stay-requires-2 c κs = search (kinLaws, rootScaleLaws, rules)
+stay-requires-2 c κs = search (kin_laws, root_scale_laws, rules)
 
 same-length-4 : tie.Need-same-length-4
-same-length-4 c = search (kinLaws, rootScaleLaws, rules)
+same-length-4 c = search (kin_laws, root_scale_laws, rules)
 
 returns-4 : tie.Need-returns-4
-returns-4 c = record { decided = λ v. search (kinLaws, rootScaleLaws, rules); mild = search (heightsMildLaws, rules) }
+returns-4 c = record { decided = λ v. search (kin_laws, root_scale_laws, rules); mild = search (heights_mild_laws, rules) }
 
 returns-5 : tie.Need-returns-5
-returns-5 c = record { decided = λ v. search (kinLaws, rootScaleLaws, rules); mild = search (heightsMildLaws, rules) }
+returns-5 c = record { decided = λ v. search (kin_laws, root_scale_laws, rules); mild = search (heights_mild_laws, rules) }
 
 pub root-scale-turn-spec : {M : Type 1} → statement M
 root-scale-turn-spec =

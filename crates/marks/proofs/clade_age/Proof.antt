@@ -1,26 +1,26 @@
 -- `marks::clade_age` meets its contract. Assumes nothing.
 use borrow.Author.Rules.{rules}
-use Rattle.marks.proofs.MarkLaws.{callLaws}
+use Rattle.marks.proofs.MarkLaws.{call_laws}
 use Rattle.marks.proofs.clade_age.Statement.{statement}
 use Rattle.marks.proofs.clade_age.Tie as tie
 
 returns : tie.Need-returns
-returns c = search (callLaws, rules)
+returns c = search (call_laws, rules)
 
 no-marks-requires : tie.Need-no-marks-requires
-no-marks-requires c κs = search (callLaws, rules)
+no-marks-requires c κs = search (call_laws, rules)
 
 array-borrow-prefix-marks : tie.Need-array-borrow-prefix-marks
-array-borrow-prefix-marks c = search (callLaws, rules)
+array-borrow-prefix-marks c = search (call_laws, rules)
 
 slice-aggregate-age-with : tie.Need-slice-aggregate-age-with
-slice-aggregate-age-with c = search (callLaws, rules)
+slice-aggregate-age-with c = search (call_laws, rules)
 
 age-with-requires : tie.Need-age-with-requires
-age-with-requires c κs = search (callLaws, rules)
+age-with-requires c κs = search (call_laws, rules)
 
 returns-2 : tie.Need-returns-2
-returns-2 c = search (callLaws, rules)
+returns-2 c = search (call_laws, rules)
 
 pub clade-age-spec : {M : Type 1} → statement M
 clade-age-spec =

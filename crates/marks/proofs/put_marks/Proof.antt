@@ -4,7 +4,7 @@ use Prim.Native.Nat.{◌-◌, ◌≤◌}
 use lib.ListN.{length, take}
 use borrow.Author.Rules.{rules}
 use Rattle.marks.specs.Marks.{marks_of}
-use Rattle.marks.proofs.MarkLaws.{markLaws}
+use Rattle.marks.proofs.MarkLaws.{mark_laws}
 use Rattle.marks.proofs.put_marks.Statement.{statement}
 use Rattle.marks.proofs.put_marks.Tie as tie
 
@@ -15,7 +15,7 @@ abbrev decreases-loop : tie.decreases-loop
 decreases-loop members marks₀ tip₀ marks tip = length members - tip
 
 loop-holds : tie.Need-loop-init invariant-loop decreases-loop
-loop-holds c = search (markLaws, rules)
+loop-holds c = search (mark_laws, rules)
 
 shared-slice-read-marks : tie.Need-shared-slice-read-marks invariant-loop decreases-loop
 shared-slice-read-marks c = search rules
@@ -30,13 +30,13 @@ loop-less : tie.Need-loop-smaller invariant-loop decreases-loop
 loop-less c = search rules
 
 loop-again : tie.Need-loop-preserved invariant-loop decreases-loop
-loop-again c = search (markLaws, rules)
+loop-again c = search (mark_laws, rules)
 
 same_length : tie.Need-same-length invariant-loop decreases-loop
 same_length c = search rules
 
 returns : tie.Need-returns invariant-loop decreases-loop
-returns c = search (markLaws, rules)
+returns c = search (mark_laws, rules)
 
 pub put-marks-spec : {M : Type 1} → statement M
 put-marks-spec =

@@ -1,6 +1,6 @@
 -- `newick_file::build` meets its contract. Assumes nothing.
 use borrow.Author.Rules.{rules}
-use Rattle.newick_file.proofs.PassLaws.{passLaws}
+use Rattle.newick_file.proofs.PassLaws.{pass_laws}
 use Rattle.newick_file.proofs.build.Statement.{statement}
 use Rattle.newick_file.proofs.build.Tie as tie
 
@@ -29,7 +29,7 @@ same-length-4 : tie.Need-same-length-4
 same-length-4 c = search rules
 
 returns : tie.Need-returns
-returns c = search (passLaws, rules)
+returns c = search (pass_laws, rules)
 
 pub build-spec : {M : Type 1} → statement M
 build-spec =

@@ -5,7 +5,7 @@ use lib.ListN.{length}
 use borrow.Author.Rules.{rules}
 use Rattle.newick_file.specs.Filing.{file, begun}
 use Rattle.newick_file.specs.Passes.{Files}
-use Rattle.newick_file.proofs.PassLaws.{passLaws}
+use Rattle.newick_file.proofs.PassLaws.{pass_laws}
 use Rattle.newick_file.proofs.file_all.Statement.{statement}
 use Rattle.newick_file.proofs.file_all.Tie as tie
 
@@ -18,7 +18,7 @@ abbrev decreases-loop : tie.decreases-loop
 decreases-loop text tips pairs₀ ups₀ stack₀ seen₀ q₀ i₀ pairs ups stack seen q i = length text - i
 
 loop-holds : tie.Need-loop-init invariant-loop decreases-loop
-loop-holds c = search (passLaws, rules)
+loop-holds c = search (pass_laws, rules)
 
 shared-slice-read-file-byte : tie.Need-shared-slice-read-file-byte invariant-loop decreases-loop
 shared-slice-read-file-byte c = search rules
@@ -33,7 +33,7 @@ loop-less : tie.Need-loop-smaller invariant-loop decreases-loop
 loop-less c = search rules
 
 loop-again : tie.Need-loop-preserved invariant-loop decreases-loop
-loop-again c = (search rules, search rules, search rules, search rules, search (passLaws, rules))
+loop-again c = (search rules, search rules, search rules, search rules, search (pass_laws, rules))
 
 same_length : tie.Need-same-length invariant-loop decreases-loop
 same_length c = search rules
@@ -48,7 +48,7 @@ same-length-4 : tie.Need-same-length-4 invariant-loop decreases-loop
 same-length-4 c = search rules
 
 returns : tie.Need-returns invariant-loop decreases-loop
-returns c = search (passLaws, rules)
+returns c = search (pass_laws, rules)
 
 pub file-all-spec : {M : Type 1} → statement M
 file-all-spec =

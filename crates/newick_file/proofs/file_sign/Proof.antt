@@ -1,6 +1,6 @@
 -- `newick_file::file_sign` meets its contract. Assumes nothing.
 use borrow.Author.Rules.{rules}
-use Rattle.newick_file.proofs.ByteLaws.{signLaws}
+use Rattle.newick_file.proofs.ByteLaws.{sign_laws}
 use Rattle.newick_file.proofs.file_sign.Statement.{statement}
 use Rattle.newick_file.proofs.file_sign.Tie as tie
 
@@ -8,13 +8,13 @@ after-point-requires : tie.Need-after-point-requires
 after-point-requires c κs = search rules
 
 returns : tie.Need-returns
-returns c = search (signLaws, rules)
+returns c = search (sign_laws, rules)
 
 after-other-requires : tie.Need-after-other-requires
 after-other-requires c κs = search rules
 
 returns-2 : tie.Need-returns-2
-returns-2 c = search (signLaws, rules)
+returns-2 c = search (sign_laws, rules)
 
 narrow-requires : tie.Need-narrow-requires
 narrow-requires c κs = search rules
@@ -38,7 +38,7 @@ same-length-2 : tie.Need-same-length-2
 same-length-2 c = search rules
 
 returns-3 : tie.Need-returns-3
-returns-3 c = search (signLaws, rules)
+returns-3 c = search (sign_laws, rules)
 
 put-length-requires : tie.Need-put-length-requires
 put-length-requires c κs = search rules
@@ -53,7 +53,7 @@ same-length-4 : tie.Need-same-length-4
 same-length-4 c = search rules
 
 returns-4 : tie.Need-returns-4
-returns-4 c = search (signLaws, rules)
+returns-4 c = search (sign_laws, rules)
 
 put-length-requires-2 : tie.Need-put-length-requires-2
 put-length-requires-2 c κs = search rules
@@ -83,13 +83,13 @@ same-length-7 : tie.Need-same-length-7
 same-length-7 c = search rules
 
 returns-5 : tie.Need-returns-5
-returns-5 c = search (signLaws, rules)
+returns-5 c = search (sign_laws, rules)
 
 after-other-requires-3 : tie.Need-after-other-requires-3
 after-other-requires-3 c κs = search rules
 
 returns-6 : tie.Need-returns-6
-returns-6 c = search (signLaws, rules)
+returns-6 c = search (sign_laws, rules)
 
 pub file-sign-spec : {M : Type 1} → statement M
 file-sign-spec =

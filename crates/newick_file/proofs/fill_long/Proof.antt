@@ -3,7 +3,7 @@ use mathlib.Core.Path.{◌≡◌}
 use Prim.Native.Nat.{◌-◌, ◌≤◌}
 use lib.ListN.{length}
 use borrow.Author.Rules.{rules}
-use Rattle.newick_file.proofs.StoreLaws.{Filled, fillLaws}
+use Rattle.newick_file.proofs.StoreLaws.{Filled, fill_laws}
 use Rattle.newick_file.proofs.fill_long.Statement.{statement}
 use Rattle.newick_file.proofs.fill_long.Tie as tie
 
@@ -14,7 +14,7 @@ abbrev decreases-loop : tie.decreases-loop
 decreases-loop l₀ i₀ l i = length l₀ - i
 
 loop-holds : tie.Need-loop-init invariant-loop decreases-loop
-loop-holds c = search (fillLaws, rules)
+loop-holds c = search (fill_laws, rules)
 
 mul-l : tie.Need-overflow-mul-l invariant-loop decreases-loop
 mul-l c = search rules
@@ -29,13 +29,13 @@ loop-less : tie.Need-loop-smaller invariant-loop decreases-loop
 loop-less c = search rules
 
 loop-again : tie.Need-loop-preserved invariant-loop decreases-loop
-loop-again c = search (fillLaws, rules)
+loop-again c = search (fill_laws, rules)
 
 same_length : tie.Need-same-length invariant-loop decreases-loop
 same_length c = search rules
 
 returns : tie.Need-returns invariant-loop decreases-loop
-returns c = search (fillLaws, rules)
+returns c = search (fill_laws, rules)
 
 pub fill-long-spec : {M : Type 1} → statement M
 fill-long-spec =

@@ -4,7 +4,7 @@ use Prim.Native.Nat.{◌-◌, ◌≤◌}
 use lib.ListN.{length}
 use mathlib.Core.Bool.{false}
 use borrow.Author.Rules.{rules}
-use Rattle.newick_file.proofs.StoreLaws.{Filled, fillLaws}
+use Rattle.newick_file.proofs.StoreLaws.{Filled, fill_laws}
 use Rattle.newick_file.proofs.fill_seen.Statement.{statement}
 use Rattle.newick_file.proofs.fill_seen.Tie as tie
 
@@ -15,7 +15,7 @@ abbrev decreases-loop : tie.decreases-loop
 decreases-loop l₀ i₀ l i = length l₀ - i
 
 loop-holds : tie.Need-loop-init invariant-loop decreases-loop
-loop-holds c = search (fillLaws, rules)
+loop-holds c = search (fill_laws, rules)
 
 slice-write-l : tie.Need-slice-write-l invariant-loop decreases-loop
 slice-write-l c = search rules
@@ -27,13 +27,13 @@ loop-less : tie.Need-loop-smaller invariant-loop decreases-loop
 loop-less c = search rules
 
 loop-again : tie.Need-loop-preserved invariant-loop decreases-loop
-loop-again c = search (fillLaws, rules)
+loop-again c = search (fill_laws, rules)
 
 same_length : tie.Need-same-length invariant-loop decreases-loop
 same_length c = search rules
 
 returns : tie.Need-returns invariant-loop decreases-loop
-returns c = search (fillLaws, rules)
+returns c = search (fill_laws, rules)
 
 pub fill-seen-spec : {M : Type 1} → statement M
 fill-seen-spec =

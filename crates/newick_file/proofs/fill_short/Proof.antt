@@ -4,7 +4,7 @@ use Prim.Native.Nat.{◌-◌, ◌≤◌}
 use lib.ListN.{length}
 use borrow.Author.Rules.{rules}
 use Rattle.tree.specs.Tree.{no_node}
-use Rattle.newick_file.proofs.StoreLaws.{Filled, fillLaws}
+use Rattle.newick_file.proofs.StoreLaws.{Filled, fill_laws}
 use Rattle.newick_file.proofs.fill_short.Statement.{statement}
 use Rattle.newick_file.proofs.fill_short.Tie as tie
 
@@ -15,7 +15,7 @@ abbrev decreases-loop : tie.decreases-loop
 decreases-loop l₀ i₀ l i = length l₀ - i
 
 loop-holds : tie.Need-loop-init invariant-loop decreases-loop
-loop-holds c = search (fillLaws, rules)
+loop-holds c = search (fill_laws, rules)
 
 mul-l : tie.Need-overflow-mul-l invariant-loop decreases-loop
 mul-l c = search rules
@@ -30,13 +30,13 @@ loop-less : tie.Need-loop-smaller invariant-loop decreases-loop
 loop-less c = search rules
 
 loop-again : tie.Need-loop-preserved invariant-loop decreases-loop
-loop-again c = search (fillLaws, rules)
+loop-again c = search (fill_laws, rules)
 
 same_length : tie.Need-same-length invariant-loop decreases-loop
 same_length c = search rules
 
 returns : tie.Need-returns invariant-loop decreases-loop
-returns c = search (fillLaws, rules)
+returns c = search (fill_laws, rules)
 
 pub fill-short-spec : {M : Type 1} → statement M
 fill-short-spec =

@@ -1,6 +1,6 @@
 -- `newick_file::put_children` meets its contract. Assumes nothing.
 use borrow.Author.Rules.{rules}
-use Rattle.newick_file.proofs.ByteLaws.{putLaws}
+use Rattle.newick_file.proofs.ByteLaws.{put_laws}
 use Rattle.newick_file.proofs.put_children.Statement.{statement}
 use Rattle.newick_file.proofs.put_children.Tie as tie
 
@@ -26,7 +26,7 @@ same_length : tie.Need-same-length
 same_length c = search rules
 
 returns : tie.Need-returns
-returns c = search (putLaws, rules)
+returns c = search (put_laws, rules)
 
 pub put-children-spec : {M : Type 1} → statement M
 put-children-spec =

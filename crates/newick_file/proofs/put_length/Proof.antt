@@ -1,6 +1,6 @@
 -- `newick_file::put_length` meets its contract. Assumes nothing.
 use borrow.Author.Rules.{rules}
-use Rattle.newick_file.proofs.ByteLaws.{putLaws}
+use Rattle.newick_file.proofs.ByteLaws.{put_laws}
 use Rattle.newick_file.proofs.put_length.Statement.{statement}
 use Rattle.newick_file.proofs.put_length.Tie as tie
 
@@ -20,7 +20,7 @@ same_length : tie.Need-same-length
 same_length c = search rules
 
 returns : tie.Need-returns
-returns c = search (putLaws, rules)
+returns c = search (put_laws, rules)
 
 pub put-length-spec : {M : Type 1} → statement M
 put-length-spec =

@@ -1,6 +1,6 @@
 -- `newick_file::put_second` meets its contract. Assumes nothing.
 use borrow.Author.Rules.{rules}
-use Rattle.newick_file.proofs.StoreLaws.{storeLaws}
+use Rattle.newick_file.proofs.StoreLaws.{store_laws}
 use Rattle.newick_file.proofs.put_second.Statement.{statement}
 use Rattle.newick_file.proofs.put_second.Tie as tie
 
@@ -20,10 +20,10 @@ same_length : tie.Need-same-length
 same_length c = search rules
 
 returns : tie.Need-returns
-returns c = search (storeLaws, rules)
+returns c = search (store_laws, rules)
 
 returns-2 : tie.Need-returns-2
-returns-2 c = search (storeLaws, rules)
+returns-2 c = search (store_laws, rules)
 
 pub put-second-spec : {M : Type 1} → statement M
 put-second-spec =

@@ -1,6 +1,6 @@
 -- `newick_file::put_seen` meets its contract. Assumes nothing.
 use borrow.Author.Rules.{rules}
-use Rattle.newick_file.proofs.StoreLaws.{storeLaws}
+use Rattle.newick_file.proofs.StoreLaws.{store_laws}
 use Rattle.newick_file.proofs.put_seen.Statement.{statement}
 use Rattle.newick_file.proofs.put_seen.Tie as tie
 
@@ -11,10 +11,10 @@ same_length : tie.Need-same-length
 same_length c = search rules
 
 returns : tie.Need-returns
-returns c = search (storeLaws, rules)
+returns c = search (store_laws, rules)
 
 returns-2 : tie.Need-returns-2
-returns-2 c = search (storeLaws, rules)
+returns-2 c = search (store_laws, rules)
 
 pub put-seen-spec : {M : Type 1} → statement M
 put-seen-spec = tie.close (tie.spec slice-write-l same_length returns returns-2)

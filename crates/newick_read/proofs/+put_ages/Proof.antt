@@ -1,5 +1,5 @@
 -- `newick_read::put_ages` meets its contract: the depth falls. Assumes nothing.
-use Rattle.newick_read.proofs.NodeLaws.{downLaws}
+use Rattle.newick_read.proofs.NodeLaws.{down_laws}
 use borrow.Author.Rules.{rules}
 use Prim.Native.Nat.{ℕ, ◌<◌}
 use borrow.Fn.Kinds.{In}
@@ -64,7 +64,7 @@ put-ages-returns : (t : ℕ) → put-ages-lts.Need-returns (
   put-ages-below t,
   put-ages.Post,
 ) (put-ages-at t) put-ages.Post
-put-ages-returns t c = search (downLaws, rules)
+put-ages-returns t c = search (down_laws, rules)
 
 put-ages-put-long-requires-2 : (t : ℕ) → put-ages-lts.Need-put-long-requires-2 (
   put-long-reads.Asked,
@@ -106,7 +106,7 @@ put-ages-returns-2 : (t : ℕ) → put-ages-lts.Need-returns-2 (
   put-ages-below t,
   put-ages.Post,
 ) (put-ages-at t) put-ages.Post
-put-ages-returns-2 t c = search (downLaws, rules)
+put-ages-returns-2 t c = search (down_laws, rules)
 
 put-ages-first-requires : (t : ℕ) → put-ages-lts.Need-first-requires (
   put-long-reads.Asked,
@@ -260,7 +260,7 @@ put-ages-returns-3 : (t : ℕ) → put-ages-lts.Need-returns-3 (
   put-ages-below t,
   put-ages.Post,
 ) (put-ages-at t) put-ages.Post
-put-ages-returns-3 t c = search (downLaws, rules)
+put-ages-returns-3 t c = search (down_laws, rules)
 
 pub +put-ages-spec : {M : Type 1} → statement M
 +put-ages-spec = close μ-put-ages λ t. put-ages-lts.spec (

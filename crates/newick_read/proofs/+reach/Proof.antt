@@ -1,5 +1,5 @@
 -- `newick_read::reach` meets its contract: the depth falls. Assumes nothing.
-use Rattle.newick_read.proofs.NodeLaws.{downLaws}
+use Rattle.newick_read.proofs.NodeLaws.{down_laws}
 use borrow.Author.Rules.{rules}
 use Prim.Native.Nat.{ℕ, ◌<◌}
 use borrow.Fn.Kinds.{In}
@@ -38,7 +38,7 @@ reach-returns : (t : ℕ) → reach-lts.Need-returns (
   larger-reads.Asked,
   larger-reads.Learnt,
 ) (reach-at t) reach.Post
-reach-returns t c = search (downLaws, rules)
+reach-returns t c = search (down_laws, rules)
 
 reach-returns-2 : (t : ℕ) → reach-lts.Need-returns-2 (
   first_reads.Asked,
@@ -54,7 +54,7 @@ reach-returns-2 : (t : ℕ) → reach-lts.Need-returns-2 (
   larger-reads.Asked,
   larger-reads.Learnt,
 ) (reach-at t) reach.Post
-reach-returns-2 t c = search (downLaws, rules)
+reach-returns-2 t c = search (down_laws, rules)
 
 reach-first-requires : (t : ℕ) → reach-lts.Need-first-requires (
   first_reads.Asked,
@@ -246,7 +246,7 @@ reach-returns-3 : (t : ℕ) → reach-lts.Need-returns-3 (
   larger-reads.Asked,
   larger-reads.Learnt,
 ) (reach-at t) reach.Post
-reach-returns-3 t c = search (downLaws, rules)
+reach-returns-3 t c = search (down_laws, rules)
 
 pub +reach-spec : {M : Type 1} → statement M
 +reach-spec = close μ-reach λ t. reach-lts.spec (

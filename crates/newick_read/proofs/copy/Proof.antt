@@ -2,7 +2,7 @@
 use mathlib.Core.Path.{◌≡◌}
 use Prim.Native.Nat.{◌-◌, ◌≤◌}
 use lib.ListN.{length}
-use Rattle.newick_read.proofs.SliceLaws.{Copied, copyLaws}
+use Rattle.newick_read.proofs.SliceLaws.{Copied, copy_laws}
 use borrow.Author.Rules.{rules}
 use Rattle.newick_read.proofs.copy.Statement.{statement}
 use Rattle.newick_read.proofs.copy.Tie as tie
@@ -14,7 +14,7 @@ abbrev decreases-loop : tie.decreases-loop
 decreases-loop from to₀ i₀ to i = length from - i
 
 loop-holds : tie.Need-loop-init invariant-loop decreases-loop
-loop-holds c = search (copyLaws, rules)
+loop-holds c = search (copy_laws, rules)
 
 mul-to : tie.Need-overflow-mul-to invariant-loop decreases-loop
 mul-to c = search rules
@@ -35,13 +35,13 @@ loop-less : tie.Need-loop-smaller invariant-loop decreases-loop
 loop-less c = search rules
 
 loop-again : tie.Need-loop-preserved invariant-loop decreases-loop
-loop-again c = search (copyLaws, rules)
+loop-again c = search (copy_laws, rules)
 
 same_length : tie.Need-same-length invariant-loop decreases-loop
 same_length c = search rules
 
 returns : tie.Need-returns invariant-loop decreases-loop
-returns c = search (copyLaws, rules)
+returns c = search (copy_laws, rules)
 
 pub copy_spec : {M : Type 1} → statement M
 copy_spec =

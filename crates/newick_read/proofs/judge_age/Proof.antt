@@ -1,5 +1,5 @@
 -- `newick_read::judge_age` meets its contract. Assumes nothing.
-use Rattle.newick_read.proofs.CallLaws.{judgeLaws}
+use Rattle.newick_read.proofs.CallLaws.{judge_laws}
 use borrow.Author.Rules.{rules}
 use Rattle.newick_read.proofs.judge_age.Statement.{statement}
 use Rattle.newick_read.proofs.judge_age.Tie as tie
@@ -14,10 +14,10 @@ same-length-2 : tie.Need-same-length-2
 same-length-2 c = search rules
 
 returns : tie.Need-returns
-returns c = search (judgeLaws, rules)
+returns c = search (judge_laws, rules)
 
 returns-2 : tie.Need-returns-2
-returns-2 c = search (judgeLaws, rules)
+returns-2 c = search (judge_laws, rules)
 
 pub judge-age-spec : {M : Type 1} → statement M
 judge-age-spec = tie.close (tie.spec send-requires same_length same-length-2 returns returns-2)

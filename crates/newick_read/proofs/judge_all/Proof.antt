@@ -1,5 +1,5 @@
 -- `newick_read::judge_all` meets its contract. Assumes nothing.
-use Rattle.newick_read.proofs.CallLaws.{judgeLaws}
+use Rattle.newick_read.proofs.CallLaws.{judge_laws}
 use borrow.Author.Rules.{rules}
 use Rattle.newick_read.proofs.judge_all.Statement.{statement}
 use Rattle.newick_read.proofs.judge_all.Tie as tie
@@ -20,10 +20,10 @@ same-length-2 : tie.Need-same-length-2
 same-length-2 c = search rules
 
 returns : tie.Need-returns
-returns c = search (judgeLaws, rules)
+returns c = search (judge_laws, rules)
 
 returns-2 : tie.Need-returns-2
-returns-2 c = search (judgeLaws, rules)
+returns-2 c = search (judge_laws, rules)
 
 pub judge-all-spec : {M : Type 1} → statement M
 judge-all-spec =

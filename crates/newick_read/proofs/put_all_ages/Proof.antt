@@ -1,5 +1,5 @@
 -- `newick_read::put_all_ages` meets its contract. Assumes nothing.
-use Rattle.newick_read.proofs.NodeLaws.{rootLaws}
+use Rattle.newick_read.proofs.NodeLaws.{root_laws}
 use borrow.Author.Rules.{rules}
 use Rattle.newick_read.proofs.put_all_ages.Statement.{statement}
 use Rattle.newick_read.proofs.put_all_ages.Tie as tie
@@ -17,7 +17,7 @@ same_length : tie.Need-same-length
 same_length c = search rules
 
 returns : tie.Need-returns
-returns c = search (rootLaws, rules)
+returns c = search (root_laws, rules)
 
 pub put-all-ages-spec : {M : Type 1} → statement M
 put-all-ages-spec =

@@ -1,5 +1,5 @@
 -- `newick_read::read_in` meets its contract. Assumes nothing.
-use Rattle.newick_read.proofs.CallLaws.{roomLaws}
+use Rattle.newick_read.proofs.CallLaws.{room_laws}
 use borrow.Author.Rules.{rules}
 use Rattle.newick_read.proofs.read_in.Statement.{statement}
 use Rattle.newick_read.proofs.read_in.Tie as tie
@@ -29,7 +29,7 @@ same-length-6 : tie.Need-same-length-6
 same-length-6 c = search rules
 
 returns : tie.Need-returns
-returns c = search (roomLaws, rules)
+returns c = search (room_laws, rules)
 
 pub read-in-spec : {M : Type 1} → statement M
 read-in-spec =

@@ -1,5 +1,5 @@
 -- `newick_read::read_whole` meets its contract. Assumes nothing.
-use Rattle.newick_read.proofs.CallLaws.{callLaws}
+use Rattle.newick_read.proofs.CallLaws.{call_laws}
 use borrow.Author.Rules.{rules}
 use Rattle.newick_read.proofs.read_whole.Statement.{statement}
 use Rattle.newick_read.proofs.read_whole.Tie as tie
@@ -11,7 +11,7 @@ add-read-few : tie.Need-overflow-add-read-few
 add-read-few c = search rules
 
 read-few-requires : tie.Need-read-few-requires
-read-few-requires c κs = search (callLaws, rules)
+read-few-requires c κs = search (call_laws, rules)
 
 same_length : tie.Need-same-length
 same_length c = search rules
@@ -20,10 +20,10 @@ same-length-2 : tie.Need-same-length-2
 same-length-2 c = search rules
 
 returns : tie.Need-returns
-returns c = search (callLaws, rules)
+returns c = search (call_laws, rules)
 
 returns-2 : tie.Need-returns-2
-returns-2 c = search (callLaws, rules)
+returns-2 c = search (call_laws, rules)
 
 pub read-whole-spec : {M : Type 1} → statement M
 read-whole-spec =

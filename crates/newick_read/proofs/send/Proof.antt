@@ -1,14 +1,14 @@
 -- `newick_read::send` meets its contract. Assumes nothing.
-use Rattle.newick_read.proofs.SliceLaws.{sendLaws}
+use Rattle.newick_read.proofs.SliceLaws.{send_laws}
 use borrow.Author.Rules.{rules}
 use Rattle.newick_read.proofs.send.Statement.{statement}
 use Rattle.newick_read.proofs.send.Tie as tie
 
 returns : tie.Need-returns
-returns c = search (sendLaws, rules)
+returns c = search (send_laws, rules)
 
 returns-2 : tie.Need-returns-2
-returns-2 c = search (sendLaws, rules)
+returns-2 c = search (send_laws, rules)
 
 send-pairs-requires : tie.Need-send-pairs-requires
 send-pairs-requires c κs = search rules
@@ -23,7 +23,7 @@ same-length-2 : tie.Need-same-length-2
 same-length-2 c = search rules
 
 returns-3 : tie.Need-returns-3
-returns-3 c = search (sendLaws, rules)
+returns-3 c = search (send_laws, rules)
 
 pub send-spec : {M : Type 1} → statement M
 send-spec =

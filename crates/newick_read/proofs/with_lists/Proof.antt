@@ -1,5 +1,5 @@
 -- `newick_read::with_lists` meets its contract. Assumes nothing.
-use Rattle.newick_read.proofs.CallLaws.{roomLaws}
+use Rattle.newick_read.proofs.CallLaws.{room_laws}
 use borrow.Author.Rules.{rules}
 use Rattle.newick_read.proofs.with_lists.Statement.{statement}
 use Rattle.newick_read.proofs.with_lists.Tie as tie
@@ -11,19 +11,19 @@ no-ups-requires : tie.Need-no-ups-requires
 no-ups-requires c κs = search rules
 
 array-borrow-prefix-found : tie.Need-array-borrow-prefix-found
-array-borrow-prefix-found c = search (roomLaws, rules)
+array-borrow-prefix-found c = search (room_laws, rules)
 
 slice-aggregate-with-marks : tie.Need-slice-aggregate-with-marks
-slice-aggregate-with-marks c = search (roomLaws, rules)
+slice-aggregate-with-marks c = search (room_laws, rules)
 
 array-borrow-prefix-ups : tie.Need-array-borrow-prefix-ups
-array-borrow-prefix-ups c = search (roomLaws, rules)
+array-borrow-prefix-ups c = search (room_laws, rules)
 
 slice-aggregate-with-marks-2 : tie.Need-slice-aggregate-with-marks-2
-slice-aggregate-with-marks-2 c = search (roomLaws, rules)
+slice-aggregate-with-marks-2 c = search (room_laws, rules)
 
 with-marks-requires : tie.Need-with-marks-requires
-with-marks-requires c κs = search (roomLaws, rules)
+with-marks-requires c κs = search (room_laws, rules)
 
 same_length : tie.Need-same-length
 same_length c = search rules
@@ -32,7 +32,7 @@ same-length-2 : tie.Need-same-length-2
 same-length-2 c = search rules
 
 returns : tie.Need-returns
-returns c = search (roomLaws, rules)
+returns c = search (room_laws, rules)
 
 pub with-lists-spec : {M : Type 1} → statement M
 with-lists-spec =

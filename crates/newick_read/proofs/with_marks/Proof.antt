@@ -1,5 +1,5 @@
 -- `newick_read::with_marks` meets its contract. Assumes nothing.
-use Rattle.newick_read.proofs.CallLaws.{roomLaws}
+use Rattle.newick_read.proofs.CallLaws.{room_laws}
 use borrow.Author.Rules.{rules}
 use Rattle.newick_read.proofs.with_marks.Statement.{statement}
 use Rattle.newick_read.proofs.with_marks.Tie as tie
@@ -11,13 +11,13 @@ no-seen-requires : tie.Need-no-seen-requires
 no-seen-requires c κs = search rules
 
 slice-aggregate-read-in : tie.Need-slice-aggregate-read-in
-slice-aggregate-read-in c = search (roomLaws, rules)
+slice-aggregate-read-in c = search (room_laws, rules)
 
 array-borrow-prefix-seen : tie.Need-array-borrow-prefix-seen
-array-borrow-prefix-seen c = search (roomLaws, rules)
+array-borrow-prefix-seen c = search (room_laws, rules)
 
 slice-aggregate-read-in-2 : tie.Need-slice-aggregate-read-in-2
-slice-aggregate-read-in-2 c = search (roomLaws, rules)
+slice-aggregate-read-in-2 c = search (room_laws, rules)
 
 read-in-requires : tie.Need-read-in-requires
 read-in-requires c κs = search rules
@@ -35,7 +35,7 @@ same-length-4 : tie.Need-same-length-4
 same-length-4 c = search rules
 
 returns : tie.Need-returns
-returns c = search (roomLaws, rules)
+returns c = search (room_laws, rules)
 
 pub with-marks-spec : {M : Type 1} → statement M
 with-marks-spec =

@@ -3,7 +3,7 @@ use mathlib.Core.Path.{◌≡◌}
 use Prim.Native.Nat.{◌≤◌, ◌+◌}
 use lib.ListN.{length}
 use Rattle.newick_spell.specs.Stands.{back, comma_under, comma_before}
-use Rattle.newick_spell.proofs.SideLaws.{commaLaws}
+use Rattle.newick_spell.proofs.SideLaws.{comma_laws}
 use borrow.Author.Rules.{rules}
 use Rattle.newick_spell.proofs.comma_before.Statement.{statement}
 use Rattle.newick_spell.proofs.comma_before.Tie as tie
@@ -24,7 +24,7 @@ shared-slice-read-b : tie.Need-shared-slice-read-b invariant-loop decreases-loop
 shared-slice-read-b c = search rules
 
 returns : tie.Need-returns invariant-loop decreases-loop
-returns c = search (commaLaws, rules)
+returns c = search (comma_laws, rules)
 
 sub-result : tie.Need-overflow-sub-result invariant-loop decreases-loop
 sub-result c = search rules
@@ -33,7 +33,7 @@ shared-slice-read-result : tie.Need-shared-slice-read-result invariant-loop decr
 shared-slice-read-result c = search rules
 
 returns-2 : tie.Need-returns-2 invariant-loop decreases-loop
-returns-2 c = search (commaLaws, rules)
+returns-2 c = search (comma_laws, rules)
 
 sub-inner : tie.Need-overflow-sub-inner invariant-loop decreases-loop
 sub-inner c = search rules
@@ -42,7 +42,7 @@ loop-less : tie.Need-loop-smaller invariant-loop decreases-loop
 loop-less c = search rules
 
 loop-again : tie.Need-loop-preserved invariant-loop decreases-loop
-loop-again c = search (commaLaws, rules)
+loop-again c = search (comma_laws, rules)
 
 add-inner : tie.Need-overflow-add-inner invariant-loop decreases-loop
 add-inner c = search rules
@@ -51,16 +51,16 @@ loop-less-2 : tie.Need-loop-smaller-2 invariant-loop decreases-loop
 loop-less-2 c = search rules
 
 loop-again-2 : tie.Need-loop-preserved-2 invariant-loop decreases-loop
-loop-again-2 c = search (commaLaws, rules)
+loop-again-2 c = search (comma_laws, rules)
 
 loop-less-3 : tie.Need-loop-smaller-3 invariant-loop decreases-loop
 loop-less-3 c = search rules
 
 loop-again-3 : tie.Need-loop-preserved-3 invariant-loop decreases-loop
-loop-again-3 c = search (commaLaws, rules)
+loop-again-3 c = search (comma_laws, rules)
 
 returns-3 : tie.Need-returns-3 invariant-loop decreases-loop
-returns-3 c = search (commaLaws, rules)
+returns-3 c = search (comma_laws, rules)
 
 pub comma-before-spec : {M : Type 1} → statement M
 comma-before-spec =

@@ -1,5 +1,5 @@
 -- `newick_spell::is_digit` meets its contract. Assumes nothing.
-use Rattle.newick_spell.proofs.TokenLaws.{byteLaws}
+use Rattle.newick_spell.proofs.TokenLaws.{byte_laws}
 use borrow.Author.Rules.{rules}
 use Rattle.newick_spell.proofs.is_digit.Statement.{statement}
 use Rattle.newick_spell.proofs.is_digit.Tie as tie
@@ -11,10 +11,10 @@ is-decimal-requires : tie.Need-is-decimal-requires
 is-decimal-requires c κs = search rules
 
 returns : tie.Need-returns
-returns c = search (byteLaws, rules)
+returns c = search (byte_laws, rules)
 
 returns-2 : tie.Need-returns-2
-returns-2 c = search (byteLaws, rules)
+returns-2 c = search (byte_laws, rules)
 
 pub is-digit-spec : {M : Type 1} → statement M
 is-digit-spec =

@@ -1,5 +1,5 @@
 -- `newick_spell::pass_subtree` meets its contract. Assumes nothing.
-use Rattle.newick_spell.proofs.PassLaws.{passLaws}
+use Rattle.newick_spell.proofs.PassLaws.{pass_laws}
 use borrow.Author.Rules.{rules}
 use Rattle.newick_spell.proofs.pass_subtree.Statement.{statement}
 use Rattle.newick_spell.proofs.pass_subtree.Tie as tie
@@ -11,7 +11,7 @@ enum-known-e : tie.Need-enum-known-e
 enum-known-e c = search rules
 
 close-all-requires : tie.Need-close-all-requires
-close-all-requires c κs = search (passLaws, rules)
+close-all-requires c κs = search (pass_laws, rules)
 
 enum-known-x : tie.Need-enum-known-x
 enum-known-x c = search rules
@@ -20,10 +20,10 @@ stop-requires : tie.Need-stop-requires
 stop-requires c κs = search rules
 
 returns : tie.Need-returns
-returns c = search (passLaws, rules)
+returns c = search (pass_laws, rules)
 
 returns-2 : tie.Need-returns-2
-returns-2 c = search (passLaws, rules)
+returns-2 c = search (pass_laws, rules)
 
 pub pass-subtree-spec : {M : Type 1} → statement M
 pass-subtree-spec =

@@ -1,5 +1,5 @@
 -- `newick_spell::pass_tip` meets its contract. Assumes nothing.
-use Rattle.newick_spell.proofs.TokenLaws.{tokenLaws}
+use Rattle.newick_spell.proofs.TokenLaws.{token_laws}
 use borrow.Author.Rules.{rules}
 use Rattle.newick_spell.proofs.pass_tip.Statement.{statement}
 use Rattle.newick_spell.proofs.pass_tip.Tie as tie
@@ -17,10 +17,10 @@ enum-known-x : tie.Need-enum-known-x
 enum-known-x c = search rules
 
 returns : tie.Need-returns
-returns c = search (tokenLaws, rules)
+returns c = search (token_laws, rules)
 
 returns-2 : tie.Need-returns-2
-returns-2 c = search (tokenLaws, rules)
+returns-2 c = search (token_laws, rules)
 
 pub pass-tip-spec : {M : Type 1} → statement M
 pass-tip-spec =

@@ -1,5 +1,5 @@
 -- `newick_spell::side_around` meets its contract. Assumes nothing.
-use Rattle.newick_spell.proofs.SideLaws.{keepLaws}
+use Rattle.newick_spell.proofs.SideLaws.{keep_laws}
 use borrow.Author.Rules.{rules}
 use Rattle.newick_spell.proofs.side_around.Statement.{statement}
 use Rattle.newick_spell.proofs.side_around.Tie as tie
@@ -8,7 +8,7 @@ shared-slice-read-result : tie.Need-shared-slice-read-result
 shared-slice-read-result c = search rules
 
 returns : tie.Need-returns
-returns c = search (keepLaws, rules)
+returns c = search (keep_laws, rules)
 
 comma-before-requires : tie.Need-comma-before-requires
 comma-before-requires c κs = search rules

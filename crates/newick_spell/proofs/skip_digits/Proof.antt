@@ -2,7 +2,7 @@
 use Prim.Native.Nat.{◌-◌}
 use lib.ListN.{length}
 use Rattle.newick_spell.specs.Tokens.{Digits}
-use Rattle.newick_spell.proofs.TokenLaws.{byteLaws, numberLaws}
+use Rattle.newick_spell.proofs.TokenLaws.{byte_laws, number_laws}
 use borrow.Author.Rules.{rules}
 use Rattle.newick_spell.proofs.skip_digits.Statement.{statement}
 use Rattle.newick_spell.proofs.skip_digits.Tie as tie
@@ -14,22 +14,22 @@ abbrev decreases-loop : tie.decreases-loop
 decreases-loop text from at₀ at = length text - at
 
 loop-holds : tie.Need-loop-init invariant-loop decreases-loop
-loop-holds c = search (numberLaws, rules)
+loop-holds c = search (number_laws, rules)
 
 is-digit-requires : tie.Need-is-digit-requires invariant-loop decreases-loop
 is-digit-requires c κs = search rules
 
 add_at : tie.Need-overflow-add-at invariant-loop decreases-loop
-add_at c = search (byteLaws, rules)
+add_at c = search (byte_laws, rules)
 
 loop-less : tie.Need-loop-smaller invariant-loop decreases-loop
-loop-less c = search (byteLaws, rules)
+loop-less c = search (byte_laws, rules)
 
 loop-again : tie.Need-loop-preserved invariant-loop decreases-loop
-loop-again c = search (numberLaws, rules)
+loop-again c = search (number_laws, rules)
 
 returns : tie.Need-returns invariant-loop decreases-loop
-returns c = search (numberLaws, rules)
+returns c = search (number_laws, rules)
 
 pub skip-digits-spec : {M : Type 1} → statement M
 skip-digits-spec =

@@ -4,8 +4,8 @@ use Prim.Native.Nat.{◌-◌}
 use lib.ListN.{length}
 use Rattle.newick_spell.specs.Spots.{Sub}
 use Rattle.newick_spell.specs.Stands.{Stands}
-use Rattle.newick_spell.proofs.TokenLaws.{byteLaws}
-use Rattle.newick_spell.proofs.PassLaws.{passLaws}
+use Rattle.newick_spell.proofs.TokenLaws.{byte_laws}
+use Rattle.newick_spell.proofs.PassLaws.{pass_laws}
 use borrow.Author.Rules.{rules}
 use Rattle.newick_spell.proofs.spell_inside.Statement.{statement}
 use Rattle.newick_spell.proofs.spell_inside.Tie as tie
@@ -32,22 +32,22 @@ add-t11 : tie.Need-overflow-add-t11 invariant-loop decreases-loop
 add-t11 c = search rules
 
 loop-less : tie.Need-loop-smaller invariant-loop decreases-loop
-loop-less c = search (byteLaws, rules)
+loop-less c = search (byte_laws, rules)
 
 loop-again : tie.Need-loop-preserved invariant-loop decreases-loop
-loop-again c = search (passLaws, rules)
+loop-again c = search (pass_laws, rules)
 
 pass-subtree-requires : tie.Need-pass-subtree-requires invariant-loop decreases-loop
-pass-subtree-requires c κs = search (passLaws, rules)
+pass-subtree-requires c κs = search (pass_laws, rules)
 
 enum-known-to : tie.Need-enum-known-to invariant-loop decreases-loop
 enum-known-to c = search rules
 
 loop-less-2 : tie.Need-loop-smaller-2 invariant-loop decreases-loop
-loop-less-2 c = search (passLaws, rules)
+loop-less-2 c = search (pass_laws, rules)
 
 loop-again-2 : tie.Need-loop-preserved-2 invariant-loop decreases-loop
-loop-again-2 c = search (passLaws, rules)
+loop-again-2 c = search (pass_laws, rules)
 
 enum-known-told : tie.Need-enum-known-told invariant-loop decreases-loop
 enum-known-told c = search rules
@@ -56,7 +56,7 @@ same_length : tie.Need-same-length invariant-loop decreases-loop
 same_length c = search rules
 
 returns : tie.Need-returns invariant-loop decreases-loop
-returns c = search (passLaws, rules)
+returns c = search (pass_laws, rules)
 
 pub spell-inside-spec : {M : Type 1} → statement M
 spell-inside-spec =

@@ -1,5 +1,5 @@
 -- `newick_spell::spell_with` meets its contract. Assumes nothing.
-use Rattle.newick_spell.proofs.PassLaws.{passLaws}
+use Rattle.newick_spell.proofs.PassLaws.{pass_laws}
 use borrow.Author.Rules.{rules}
 use Rattle.newick_spell.proofs.spell_with.Statement.{statement}
 use Rattle.newick_spell.proofs.spell_with.Tie as tie
@@ -11,7 +11,7 @@ keep-requires : tie.Need-keep-requires
 keep-requires c κs = search rules
 
 spell-inside-requires : tie.Need-spell-inside-requires
-spell-inside-requires c κs = search (passLaws, rules)
+spell-inside-requires c κs = search (pass_laws, rules)
 
 same_length : tie.Need-same-length
 same_length c = search rules
@@ -23,7 +23,7 @@ stop-requires : tie.Need-stop-requires
 stop-requires c κs = search rules
 
 returns-2 : tie.Need-returns-2
-returns-2 c = search (passLaws, rules)
+returns-2 c = search (pass_laws, rules)
 
 pub spell-with-spec : {M : Type 1} → statement M
 spell-with-spec =

@@ -3,7 +3,7 @@ use borrow.Author.Rules.{rules}
 use Prim.Native.Nat.{ℕ, ◌<◌}
 use borrow.Fn.Kinds.{In}
 use borrow.Fn.PlainCycle.{Measures, is, falls, and}
-use Rattle.newick_write.proofs.PutLaws.{roomLaws}
+use Rattle.newick_write.proofs.PutLaws.{room_laws}
 use Rattle.newick_write.proofs.take_node.Reads as take-node
 use Rattle.newick_write.proofs.take_node.Kinds as take-node-kinds
 use Rattle.newick_write.proofs.+take_node.Lts-take_node as take-node-lts
@@ -39,7 +39,7 @@ take-node-decimal-len-requires : (t : ℕ) → take-node-lts.Need-decimal-len-re
   branch-len-reads.Asked,
   branch-len-reads.Learnt,
 ) (take-node-at t) take-node.Post
-take-node-decimal-len-requires t c κs = search (roomLaws, rules)
+take-node-decimal-len-requires t c κs = search (room_laws, rules)
 
 take-node-take-requires : (t : ℕ) → take-node-lts.Need-take-requires (
   decimal-len-reads.Asked,
@@ -55,7 +55,7 @@ take-node-take-requires : (t : ℕ) → take-node-lts.Need-take-requires (
   branch-len-reads.Asked,
   branch-len-reads.Learnt,
 ) (take-node-at t) take-node.Post
-take-node-take-requires t c κs = search (roomLaws, rules)
+take-node-take-requires t c κs = search (room_laws, rules)
 
 take-node-returns : (t : ℕ) → take-node-lts.Need-returns (
   decimal-len-reads.Asked,
@@ -71,7 +71,7 @@ take-node-returns : (t : ℕ) → take-node-lts.Need-returns (
   branch-len-reads.Asked,
   branch-len-reads.Learnt,
 ) (take-node-at t) take-node.Post
-take-node-returns t c = search (roomLaws, rules)
+take-node-returns t c = search (room_laws, rules)
 
 take-node-is-inner-requires : (t : ℕ) → take-node-lts.Need-is-inner-requires (
   decimal-len-reads.Asked,
@@ -87,7 +87,7 @@ take-node-is-inner-requires : (t : ℕ) → take-node-lts.Need-is-inner-requires
   branch-len-reads.Asked,
   branch-len-reads.Learnt,
 ) (take-node-at t) take-node.Post
-take-node-is-inner-requires t c κs = search (roomLaws, rules)
+take-node-is-inner-requires t c κs = search (room_laws, rules)
 
 take-node-read-children-requires : (t : ℕ) → take-node-lts.Need-read-children-requires (
   decimal-len-reads.Asked,
@@ -103,7 +103,7 @@ take-node-read-children-requires : (t : ℕ) → take-node-lts.Need-read-childre
   branch-len-reads.Asked,
   branch-len-reads.Learnt,
 ) (take-node-at t) take-node.Post
-take-node-read-children-requires t c κs = search (roomLaws, rules)
+take-node-read-children-requires t c κs = search (room_laws, rules)
 
 take-node-sub-take-node : (t : ℕ) → take-node-lts.Need-overflow-sub-take-node (
   decimal-len-reads.Asked,
@@ -119,7 +119,7 @@ take-node-sub-take-node : (t : ℕ) → take-node-lts.Need-overflow-sub-take-nod
   branch-len-reads.Asked,
   branch-len-reads.Learnt,
 ) (take-node-at t) take-node.Post
-take-node-sub-take-node t c = search (roomLaws, rules)
+take-node-sub-take-node t c = search (room_laws, rules)
 
 take-node-take-requires-2 : (t : ℕ) → take-node-lts.Need-take-requires-2 (
   decimal-len-reads.Asked,
@@ -135,7 +135,7 @@ take-node-take-requires-2 : (t : ℕ) → take-node-lts.Need-take-requires-2 (
   branch-len-reads.Asked,
   branch-len-reads.Learnt,
 ) (take-node-at t) take-node.Post
-take-node-take-requires-2 t c κs = search (roomLaws, rules)
+take-node-take-requires-2 t c κs = search (room_laws, rules)
 
 take-node-take-node-requires : (t : ℕ) → take-node-lts.Need-take-node-requires (
   decimal-len-reads.Asked,
@@ -151,7 +151,7 @@ take-node-take-node-requires : (t : ℕ) → take-node-lts.Need-take-node-requir
   branch-len-reads.Asked,
   branch-len-reads.Learnt,
 ) (take-node-at t) take-node.Post
-take-node-take-node-requires t c κs = search (roomLaws, rules)
+take-node-take-node-requires t c κs = search (room_laws, rules)
 
 take-node-branch-len-requires : (t : ℕ) → take-node-lts.Need-branch-len-requires (
   decimal-len-reads.Asked,
@@ -167,7 +167,7 @@ take-node-branch-len-requires : (t : ℕ) → take-node-lts.Need-branch-len-requ
   branch-len-reads.Asked,
   branch-len-reads.Learnt,
 ) (take-node-at t) take-node.Post
-take-node-branch-len-requires t c κs = search (roomLaws, rules)
+take-node-branch-len-requires t c κs = search (room_laws, rules)
 
 take-node-take-requires-3 : (t : ℕ) → take-node-lts.Need-take-requires-3 (
   decimal-len-reads.Asked,
@@ -183,7 +183,7 @@ take-node-take-requires-3 : (t : ℕ) → take-node-lts.Need-take-requires-3 (
   branch-len-reads.Asked,
   branch-len-reads.Learnt,
 ) (take-node-at t) take-node.Post
-take-node-take-requires-3 t c κs = search (roomLaws, rules)
+take-node-take-requires-3 t c κs = search (room_laws, rules)
 
 take-node-sub-take-node-2 : (t : ℕ) → take-node-lts.Need-overflow-sub-take-node-2 (
   decimal-len-reads.Asked,
@@ -199,7 +199,7 @@ take-node-sub-take-node-2 : (t : ℕ) → take-node-lts.Need-overflow-sub-take-n
   branch-len-reads.Asked,
   branch-len-reads.Learnt,
 ) (take-node-at t) take-node.Post
-take-node-sub-take-node-2 t c = search (roomLaws, rules)
+take-node-sub-take-node-2 t c = search (room_laws, rules)
 
 take-node-take-node-requires-2 : (t : ℕ) → take-node-lts.Need-take-node-requires-2 (
   decimal-len-reads.Asked,
@@ -215,7 +215,7 @@ take-node-take-node-requires-2 : (t : ℕ) → take-node-lts.Need-take-node-requ
   branch-len-reads.Asked,
   branch-len-reads.Learnt,
 ) (take-node-at t) take-node.Post
-take-node-take-node-requires-2 t c κs = search (roomLaws, rules)
+take-node-take-node-requires-2 t c κs = search (room_laws, rules)
 
 take-node-branch-len-requires-2 : (t : ℕ) → take-node-lts.Need-branch-len-requires-2 (
   decimal-len-reads.Asked,
@@ -231,7 +231,7 @@ take-node-branch-len-requires-2 : (t : ℕ) → take-node-lts.Need-branch-len-re
   branch-len-reads.Asked,
   branch-len-reads.Learnt,
 ) (take-node-at t) take-node.Post
-take-node-branch-len-requires-2 t c κs = search (roomLaws, rules)
+take-node-branch-len-requires-2 t c κs = search (room_laws, rules)
 
 take-node-take-requires-4 : (t : ℕ) → take-node-lts.Need-take-requires-4 (
   decimal-len-reads.Asked,
@@ -247,7 +247,7 @@ take-node-take-requires-4 : (t : ℕ) → take-node-lts.Need-take-requires-4 (
   branch-len-reads.Asked,
   branch-len-reads.Learnt,
 ) (take-node-at t) take-node.Post
-take-node-take-requires-4 t c κs = search (roomLaws, rules)
+take-node-take-requires-4 t c κs = search (room_laws, rules)
 
 take-node-returns-2 : (t : ℕ) → take-node-lts.Need-returns-2 (
   decimal-len-reads.Asked,
@@ -263,7 +263,7 @@ take-node-returns-2 : (t : ℕ) → take-node-lts.Need-returns-2 (
   branch-len-reads.Asked,
   branch-len-reads.Learnt,
 ) (take-node-at t) take-node.Post
-take-node-returns-2 t c = search (roomLaws, rules)
+take-node-returns-2 t c = search (room_laws, rules)
 
 take-node-decimal-len-requires-2 : (t : ℕ) → take-node-lts.Need-decimal-len-requires-2 (
   decimal-len-reads.Asked,
@@ -279,7 +279,7 @@ take-node-decimal-len-requires-2 : (t : ℕ) → take-node-lts.Need-decimal-len-
   branch-len-reads.Asked,
   branch-len-reads.Learnt,
 ) (take-node-at t) take-node.Post
-take-node-decimal-len-requires-2 t c κs = search (roomLaws, rules)
+take-node-decimal-len-requires-2 t c κs = search (room_laws, rules)
 
 take-node-take-requires-5 : (t : ℕ) → take-node-lts.Need-take-requires-5 (
   decimal-len-reads.Asked,
@@ -295,7 +295,7 @@ take-node-take-requires-5 : (t : ℕ) → take-node-lts.Need-take-requires-5 (
   branch-len-reads.Asked,
   branch-len-reads.Learnt,
 ) (take-node-at t) take-node.Post
-take-node-take-requires-5 t c κs = search (roomLaws, rules)
+take-node-take-requires-5 t c κs = search (room_laws, rules)
 
 take-node-returns-3 : (t : ℕ) → take-node-lts.Need-returns-3 (
   decimal-len-reads.Asked,
@@ -311,7 +311,7 @@ take-node-returns-3 : (t : ℕ) → take-node-lts.Need-returns-3 (
   branch-len-reads.Asked,
   branch-len-reads.Learnt,
 ) (take-node-at t) take-node.Post
-take-node-returns-3 t c = search (roomLaws, rules)
+take-node-returns-3 t c = search (room_laws, rules)
 
 pub +take-node-spec : {M : Type 1} → statement M
 +take-node-spec = close μ-take-node λ t. take-node-lts.spec (

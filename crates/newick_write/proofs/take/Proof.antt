@@ -1,23 +1,23 @@
 -- `newick_write::take` meets its contract. Assumes nothing.
 use borrow.Author.Rules.{rules}
-use Rattle.newick_write.proofs.PutLaws.{roomLaws, copyLaws}
+use Rattle.newick_write.proofs.PutLaws.{room_laws, copy_laws}
 use Rattle.newick_write.proofs.take.Statement.{statement}
 use Rattle.newick_write.proofs.take.Tie as tie
 
 enum-known-space : tie.Need-enum-known-space
-enum-known-space c = search (roomLaws, copyLaws, rules)
+enum-known-space c = search (room_laws, copy_laws, rules)
 
 returns : tie.Need-returns
-returns c = search (roomLaws, copyLaws, rules)
+returns c = search (room_laws, copy_laws, rules)
 
 returns-2 : tie.Need-returns-2
-returns-2 c = search (roomLaws, copyLaws, rules)
+returns-2 c = search (room_laws, copy_laws, rules)
 
 enum_told : tie.Need-enum-told
-enum_told c = search (roomLaws, copyLaws, rules)
+enum_told c = search (room_laws, copy_laws, rules)
 
 returns-3 : tie.Need-returns-3
-returns-3 c = search (roomLaws, copyLaws, rules)
+returns-3 c = search (room_laws, copy_laws, rules)
 
 pub take_spec : {M : Type 1} → statement M
 take_spec = tie.close (tie.spec enum-known-space returns returns-2 enum_told returns-3)

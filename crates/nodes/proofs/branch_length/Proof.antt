@@ -1,6 +1,6 @@
 -- `nodes::branch_length` meets its contract. Assumes nothing.
 use Rattle.tree.specs.PlaceLaws.{wide16}
-use Rattle.nodes.proofs.NodeLaws.{branchLaws}
+use Rattle.nodes.proofs.NodeLaws.{branch_laws}
 use borrow.Author.Rules.{rules}
 use Rattle.nodes.proofs.branch_length.Statement.{statement}
 use Rattle.nodes.proofs.branch_length.Tie as tie
@@ -15,7 +15,7 @@ cast-p : tie.Need-overflow-cast-p
 cast-p c = search (wide16, rules)
 
 returns : tie.Need-returns
-returns c = search (branchLaws, rules)
+returns c = search (branch_laws, rules)
 
 mul-t14 : tie.Need-overflow-mul-t14
 mul-t14 c = search rules
@@ -30,16 +30,16 @@ shared-slice-read-t19 : tie.Need-shared-slice-read-t19
 shared-slice-read-t19 c = search rules
 
 returns-2 : tie.Need-returns-2
-returns-2 c = search (branchLaws, rules)
+returns-2 c = search (branch_laws, rules)
 
 returns-3 : tie.Need-returns-3
-returns-3 c = search (branchLaws, rules)
+returns-3 c = search (branch_laws, rules)
 
 returns-4 : tie.Need-returns-4
-returns-4 c = search (branchLaws, rules)
+returns-4 c = search (branch_laws, rules)
 
 returns-5 : tie.Need-returns-5
-returns-5 c = search (branchLaws, rules)
+returns-5 c = search (branch_laws, rules)
 
 pub branch-length-spec : {M : Type 1} → statement M
 branch-length-spec =

@@ -1,6 +1,6 @@
 -- `nodes::children` meets its contract. Assumes nothing.
 use Rattle.tree.specs.PlaceLaws.{wide16}
-use Rattle.nodes.proofs.NodeLaws.{childrenLaws}
+use Rattle.nodes.proofs.NodeLaws.{children_laws}
 use borrow.Author.Rules.{rules}
 use Rattle.nodes.proofs.children.Statement.{statement}
 use Rattle.nodes.proofs.children.Tie as tie
@@ -33,16 +33,16 @@ cast-b : tie.Need-overflow-cast-b
 cast-b c = search (wide16, rules)
 
 returns : tie.Need-returns
-returns c = search (childrenLaws, rules)
+returns c = search (children_laws, rules)
 
 returns-2 : tie.Need-returns-2
-returns-2 c = search (childrenLaws, rules)
+returns-2 c = search (children_laws, rules)
 
 returns-3 : tie.Need-returns-3
-returns-3 c = search (childrenLaws, rules)
+returns-3 c = search (children_laws, rules)
 
 returns-4 : tie.Need-returns-4
-returns-4 c = search (childrenLaws, rules)
+returns-4 c = search (children_laws, rules)
 
 pub children-spec : {M : Type 1} → statement M
 children-spec =

@@ -1,6 +1,6 @@
 -- `nodes::sibling_in` meets its contract. Assumes nothing.
 use Rattle.tree.specs.PlaceLaws.{wide16}
-use Rattle.nodes.proofs.NodeLaws.{siblingLaws}
+use Rattle.nodes.proofs.NodeLaws.{sibling_laws}
 use borrow.Author.Rules.{rules}
 use Rattle.nodes.proofs.sibling_in.Statement.{statement}
 use Rattle.nodes.proofs.sibling_in.Tie as tie
@@ -33,13 +33,13 @@ cast-t18 : tie.Need-overflow-cast-t18
 cast-t18 c = search (wide16, rules)
 
 returns : tie.Need-returns
-returns c = search (siblingLaws, rules)
+returns c = search (sibling_laws, rules)
 
 returns-2 : tie.Need-returns-2
-returns-2 c = search (siblingLaws, rules)
+returns-2 c = search (sibling_laws, rules)
 
 returns-3 : tie.Need-returns-3
-returns-3 c = search (siblingLaws, rules)
+returns-3 c = search (sibling_laws, rules)
 
 pub sibling-in-spec : {M : Type 1} → statement M
 sibling-in-spec =

@@ -1,5 +1,5 @@
 -- `order::visit` meets its contract. Assumes nothing.
-use Rattle.order.proofs.FillLaws.{visitLaws}
+use Rattle.order.proofs.FillLaws.{visit_laws}
 use Rattle.tree.specs.PlaceLaws.{wide16}
 use borrow.Author.Rules.{rules}
 use Rattle.order.proofs.visit.Statement.{statement}
@@ -24,7 +24,7 @@ mul-order-2 : tie.Need-overflow-mul-order-2
 mul-order-2 c = search rules
 
 slice-write-order : tie.Need-slice-write-order
-slice-write-order c = search (visitLaws, rules)
+slice-write-order c = search (visit_laws, rules)
 
 add-if1 : tie.Need-overflow-add-if1
 add-if1 c = search rules
@@ -42,7 +42,7 @@ mul-order-4 : tie.Need-overflow-mul-order-4
 mul-order-4 c = search rules
 
 slice-write-order-2 : tie.Need-slice-write-order-2
-slice-write-order-2 c = search (visitLaws, rules)
+slice-write-order-2 c = search (visit_laws, rules)
 
 add-order-2 : tie.Need-overflow-add-order-2
 add-order-2 c = search rules
@@ -63,7 +63,7 @@ mul-order-6 : tie.Need-overflow-mul-order-6
 mul-order-6 c = search rules
 
 slice-write-order-3 : tie.Need-slice-write-order-3
-slice-write-order-3 c = search (visitLaws, rules)
+slice-write-order-3 c = search (visit_laws, rules)
 
 add-result : tie.Need-overflow-add-result
 add-result c = search rules
@@ -72,13 +72,13 @@ same_length : tie.Need-same-length
 same_length c = search rules
 
 returns : tie.Need-returns
-returns c = search (visitLaws, rules)
+returns c = search (visit_laws, rules)
 
 same-length-2 : tie.Need-same-length-2
 same-length-2 c = search rules
 
 returns-2 : tie.Need-returns-2
-returns-2 c = search (visitLaws, rules)
+returns-2 c = search (visit_laws, rules)
 
 pub visit-spec : {M : Type 1} → statement M
 visit-spec =

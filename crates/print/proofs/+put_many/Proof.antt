@@ -1,5 +1,5 @@
 -- `print::put_many` meets its contract: the number falls. Assumes nothing.
-use Rattle.print.proofs.PutLaws.{decimalLaws}
+use Rattle.print.proofs.PutLaws.{decimal_laws}
 use borrow.Author.Rules.{rules}
 use Prim.Native.Nat.{ℕ, ◌<◌}
 use borrow.Fn.Kinds.{In}
@@ -27,7 +27,7 @@ put-many-put-digit-requires : (t : ℕ) → put-many-lts.Need-put-digit-requires
   put-many-below t,
   put-many.Post,
 ) (put-many-at t) put-many.Post
-put-many-put-digit-requires t c κs = search (decimalLaws, rules)
+put-many-put-digit-requires t c κs = search (decimal_laws, rules)
 
 put-many-same-length : (t : ℕ) → put-many-lts.Need-same-length (
   put-digit-reads.Asked,
@@ -35,7 +35,7 @@ put-many-same-length : (t : ℕ) → put-many-lts.Need-same-length (
   put-many-below t,
   put-many.Post,
 ) (put-many-at t) put-many.Post
-put-many-same-length t c = search (decimalLaws, rules)
+put-many-same-length t c = search (decimal_laws, rules)
 
 put-many-returns : (t : ℕ) → put-many-lts.Need-returns (
   put-digit-reads.Asked,
@@ -43,7 +43,7 @@ put-many-returns : (t : ℕ) → put-many-lts.Need-returns (
   put-many-below t,
   put-many.Post,
 ) (put-many-at t) put-many.Post
-put-many-returns t c = search (decimalLaws, rules)
+put-many-returns t c = search (decimal_laws, rules)
 
 put-many-put-many-requires : (t : ℕ) → put-many-lts.Need-put-many-requires (
   put-digit-reads.Asked,
@@ -51,7 +51,7 @@ put-many-put-many-requires : (t : ℕ) → put-many-lts.Need-put-many-requires (
   put-many-below t,
   put-many.Post,
 ) (put-many-at t) put-many.Post
-put-many-put-many-requires t c κs = search (decimalLaws, rules)
+put-many-put-many-requires t c κs = search (decimal_laws, rules)
 
 put-many-put-digit-requires-2 : (t : ℕ) → put-many-lts.Need-put-digit-requires-2 (
   put-digit-reads.Asked,
@@ -59,7 +59,7 @@ put-many-put-digit-requires-2 : (t : ℕ) → put-many-lts.Need-put-digit-requir
   put-many-below t,
   put-many.Post,
 ) (put-many-at t) put-many.Post
-put-many-put-digit-requires-2 t c κs = search (decimalLaws, rules)
+put-many-put-digit-requires-2 t c κs = search (decimal_laws, rules)
 
 put-many-same-length-2 : (t : ℕ) → put-many-lts.Need-same-length-2 (
   put-digit-reads.Asked,
@@ -67,7 +67,7 @@ put-many-same-length-2 : (t : ℕ) → put-many-lts.Need-same-length-2 (
   put-many-below t,
   put-many.Post,
 ) (put-many-at t) put-many.Post
-put-many-same-length-2 t c = search (decimalLaws, rules)
+put-many-same-length-2 t c = search (decimal_laws, rules)
 
 put-many-returns-2 : (t : ℕ) → put-many-lts.Need-returns-2 (
   put-digit-reads.Asked,
@@ -75,7 +75,7 @@ put-many-returns-2 : (t : ℕ) → put-many-lts.Need-returns-2 (
   put-many-below t,
   put-many.Post,
 ) (put-many-at t) put-many.Post
-put-many-returns-2 t c = search (decimalLaws, rules)
+put-many-returns-2 t c = search (decimal_laws, rules)
 
 pub +put-many-spec : {M : Type 1} → statement M
 +put-many-spec = close μ-put-many λ t. put-many-lts.spec (

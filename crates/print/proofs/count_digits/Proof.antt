@@ -1,5 +1,5 @@
 -- `print::count_digits` meets its contract. Assumes nothing.
-use Rattle.print.proofs.PutLaws.{Counting, countLaws}
+use Rattle.print.proofs.PutLaws.{Counting, count_laws}
 use borrow.Author.Rules.{rules}
 use Rattle.print.proofs.count_digits.Statement.{statement}
 use Rattle.print.proofs.count_digits.Tie as tie
@@ -11,19 +11,19 @@ abbrev decreases-loop : tie.decreases-loop
 decreases-loop n rest₀ count₀ rest count = rest
 
 loop-holds : tie.Need-loop-init invariant-loop decreases-loop
-loop-holds c = search (countLaws, rules)
+loop-holds c = search (count_laws, rules)
 
 add-count : tie.Need-overflow-add-count invariant-loop decreases-loop
-add-count c = search (countLaws, rules)
+add-count c = search (count_laws, rules)
 
 loop-less : tie.Need-loop-smaller invariant-loop decreases-loop
-loop-less c = search (countLaws, rules)
+loop-less c = search (count_laws, rules)
 
 loop-again : tie.Need-loop-preserved invariant-loop decreases-loop
-loop-again c = search (countLaws, rules)
+loop-again c = search (count_laws, rules)
 
 returns : tie.Need-returns invariant-loop decreases-loop
-returns c = search (countLaws, rules)
+returns c = search (count_laws, rules)
 
 pub count-digits-spec : {M : Type 1} → statement M
 count-digits-spec =

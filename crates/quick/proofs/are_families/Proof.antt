@@ -5,7 +5,7 @@ use Prim.Native.Nat.{◌-◌, ◌/◌, ◌≤◌}
 use lib.ListN.{length}
 use Rattle.tree.specs.Bounded.{every}
 use Rattle.quick.specs.Quick.{family_at}
-use Rattle.quick.proofs.TestLaws.{eachLaws, family-reads}
+use Rattle.quick.proofs.TestLaws.{each_laws, family-reads}
 use borrow.Author.Rules.{rules}
 use Rattle.quick.proofs.are_families.Statement.{statement}
 use Rattle.quick.proofs.are_families.Tie as tie
@@ -20,7 +20,7 @@ add-tips : tie.Need-overflow-add-tips invariant-loop decreases-loop
 add-tips c = search rules
 
 loop-holds : tie.Need-loop-init invariant-loop decreases-loop
-loop-holds c = search (eachLaws, rules)
+loop-holds c = search (each_laws, rules)
 
 add-is-family : tie.Need-overflow-add-is-family invariant-loop decreases-loop
 add-is-family c = search rules
@@ -35,13 +35,13 @@ loop-less : tie.Need-loop-smaller invariant-loop decreases-loop
 loop-less c = search rules
 
 loop-again : tie.Need-loop-preserved invariant-loop decreases-loop
-loop-again c = search (eachLaws, rules)
+loop-again c = search (each_laws, rules)
 
 returns : tie.Need-returns invariant-loop decreases-loop
-returns c = search (eachLaws, rules)
+returns c = search (each_laws, rules)
 
 returns-2 : tie.Need-returns-2 invariant-loop decreases-loop
-returns-2 c = search (eachLaws, rules)
+returns-2 c = search (each_laws, rules)
 
 pub are-families-spec : {M : Type 1} → statement M
 are-families-spec =

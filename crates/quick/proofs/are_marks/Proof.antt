@@ -3,7 +3,7 @@ use mathlib.Core.Path.{◌≡◌}
 use Prim.Native.Nat.{◌-◌, ◌≤◌}
 use Rattle.tree.specs.Bounded.{every}
 use Rattle.quick.specs.Quick.{is_mark}
-use Rattle.quick.proofs.TestLaws.{joinLaws}
+use Rattle.quick.proofs.TestLaws.{join_laws}
 use borrow.Author.Rules.{rules}
 use Rattle.quick.proofs.are_marks.Statement.{statement}
 use Rattle.quick.proofs.are_marks.Tie as tie
@@ -15,7 +15,7 @@ abbrev decreases-loop : tie.decreases-loop
 decreases-loop pairs count all₀ i₀ all i = count - i
 
 loop-holds : tie.Need-loop-init invariant-loop decreases-loop
-loop-holds c = search (joinLaws, rules)
+loop-holds c = search (join_laws, rules)
 
 mul-all : tie.Need-overflow-mul-all invariant-loop decreases-loop
 mul-all c = search rules
@@ -30,10 +30,10 @@ loop-less : tie.Need-loop-smaller invariant-loop decreases-loop
 loop-less c = search rules
 
 loop-again : tie.Need-loop-preserved invariant-loop decreases-loop
-loop-again c = search (joinLaws, rules)
+loop-again c = search (join_laws, rules)
 
 returns : tie.Need-returns invariant-loop decreases-loop
-returns c = search (joinLaws, rules)
+returns c = search (join_laws, rules)
 
 pub are-marks-spec : {M : Type 1} → statement M
 are-marks-spec =

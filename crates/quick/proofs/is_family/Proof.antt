@@ -1,6 +1,6 @@
 -- `quick::is_family` meets its contract. Assumes nothing.
 use Rattle.tree.specs.PlaceLaws.{wide16}
-use Rattle.quick.proofs.TestLaws.{familyLaws}
+use Rattle.quick.proofs.TestLaws.{family_laws}
 use borrow.Author.Rules.{rules}
 use Rattle.quick.proofs.is_family.Statement.{statement}
 use Rattle.quick.proofs.is_family.Tie as tie
@@ -69,13 +69,13 @@ shared-slice-read-result-2 : tie.Need-shared-slice-read-result-2
 shared-slice-read-result-2 c = search rules
 
 returns : tie.Need-returns
-returns c = search (familyLaws, rules)
+returns c = search (family_laws, rules)
 
 returns-2 : tie.Need-returns-2
-returns-2 c = search (familyLaws, rules)
+returns-2 c = search (family_laws, rules)
 
 returns-3 : tie.Need-returns-3
-returns-3 c = search (familyLaws, rules)
+returns-3 c = search (family_laws, rules)
 
 pub is-family-spec : {M : Type 1} → statement M
 is-family-spec =

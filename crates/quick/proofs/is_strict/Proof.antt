@@ -1,6 +1,6 @@
 -- `quick::is_strict` meets its contract. Assumes nothing.
 use lib.Ieee.{nan_bits}
-use Rattle.quick.proofs.CallLaws.{strictLaws}
+use Rattle.quick.proofs.CallLaws.{strict_laws}
 use borrow.Author.Rules.{rules}
 use Rattle.quick.proofs.is_strict.Statement.{statement}
 use Rattle.quick.proofs.is_strict.Tie as tie
@@ -37,10 +37,10 @@ are-families-requires : tie.Need-are-families-requires
 are-families-requires c κs = search rules
 
 returns : tie.Need-returns
-returns c = search (strictLaws, rules)
+returns c = search (strict_laws, rules)
 
 returns-2 : tie.Need-returns-2
-returns-2 c = search (strictLaws, rules)
+returns-2 c = search (strict_laws, rules)
 
 pub is-strict-spec : {M : Type 1} → statement M
 is-strict-spec =

@@ -1,5 +1,5 @@
 -- `quick::validate` meets its contract. Assumes nothing.
-use Rattle.quick.proofs.CallLaws.{entryLaws}
+use Rattle.quick.proofs.CallLaws.{entry_laws}
 use borrow.Author.Rules.{rules}
 use Rattle.quick.proofs.validate.Statement.{statement}
 use Rattle.quick.proofs.validate.Tie as tie
@@ -8,10 +8,10 @@ is-sized-requires : tie.Need-is-sized-requires
 is-sized-requires c κs = search rules
 
 is-strict-requires : tie.Need-is-strict-requires
-is-strict-requires c κs = search (entryLaws, rules)
+is-strict-requires c κs = search (entry_laws, rules)
 
 returns : tie.Need-returns
-returns c = search (entryLaws, rules)
+returns c = search (entry_laws, rules)
 
 validate-requires : tie.Need-validate-requires
 validate-requires c κs = search rules

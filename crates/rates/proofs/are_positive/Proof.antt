@@ -6,7 +6,7 @@ use lib.ListN.{length}
 use Rattle.tree.specs.Bounded.{every}
 use Rattle.rates.specs.Clock.{positive_at}
 use borrow.Author.Rules.{rules}
-use Rattle.rates.proofs.ClockLaws.{positiveLaws}
+use Rattle.rates.proofs.ClockLaws.{positive_laws}
 use Rattle.rates.proofs.are_positive.Statement.{statement}
 use Rattle.rates.proofs.are_positive.Tie as tie
 
@@ -17,31 +17,31 @@ abbrev decreases-loop : tie.decreases-loop
 decreases-loop rates i₀ i = length rates - i
 
 loop-holds : tie.Need-loop-init invariant-loop decreases-loop
-loop-holds c = search (positiveLaws, rules)
+loop-holds c = search (positive_laws, rules)
 
 mul-is-positive : tie.Need-overflow-mul-is-positive invariant-loop decreases-loop
-mul-is-positive c = search (positiveLaws, rules)
+mul-is-positive c = search (positive_laws, rules)
 
 shared-slice-read-is-positive : tie.Need-shared-slice-read-is-positive invariant-loop decreases-loop
-shared-slice-read-is-positive c = search (positiveLaws, rules)
+shared-slice-read-is-positive c = search (positive_laws, rules)
 
 is-positive-requires : tie.Need-is-positive-requires invariant-loop decreases-loop
-is-positive-requires c κs = search (positiveLaws, rules)
+is-positive-requires c κs = search (positive_laws, rules)
 
 add-i : tie.Need-overflow-add-i invariant-loop decreases-loop
-add-i c = search (positiveLaws, rules)
+add-i c = search (positive_laws, rules)
 
 loop-less : tie.Need-loop-smaller invariant-loop decreases-loop
-loop-less c = search (positiveLaws, rules)
+loop-less c = search (positive_laws, rules)
 
 loop-again : tie.Need-loop-preserved invariant-loop decreases-loop
-loop-again c = search (positiveLaws, rules)
+loop-again c = search (positive_laws, rules)
 
 returns : tie.Need-returns invariant-loop decreases-loop
-returns c = search (positiveLaws, rules)
+returns c = search (positive_laws, rules)
 
 returns-2 : tie.Need-returns-2 invariant-loop decreases-loop
-returns-2 c = search (positiveLaws, rules)
+returns-2 c = search (positive_laws, rules)
 
 pub are-positive-spec : {M : Type 1} → statement M
 are-positive-spec =

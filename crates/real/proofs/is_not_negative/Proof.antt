@@ -1,17 +1,17 @@
 -- `real::is_not_negative` meets its contract. Assumes nothing.
 use borrow.Author.Rules.{rules}
-use Rattle.real.proofs.ChoiceLaws.{testLaws}
+use Rattle.real.proofs.ChoiceLaws.{test_laws}
 use Rattle.real.proofs.is_not_negative.Statement.{statement}
 use Rattle.real.proofs.is_not_negative.Tie as tie
 
 is-finite-requires : tie.Need-is-finite-requires
-is-finite-requires c κs = search (testLaws, rules)
+is-finite-requires c κs = search (test_laws, rules)
 
 returns : tie.Need-returns
-returns c = search (testLaws, rules)
+returns c = search (test_laws, rules)
 
 returns-2 : tie.Need-returns-2
-returns-2 c = search (testLaws, rules)
+returns-2 c = search (test_laws, rules)
 
 pub is-not-negative-spec : {M : Type 1} → statement M
 is-not-negative-spec = tie.close (tie.spec is-finite-requires returns returns-2)

@@ -1,6 +1,6 @@
 -- `record_parameters::priors` meets its contract. Assumes nothing.
 use borrow.Author.Rules.{rules}
-use Rattle.record_parameters.proofs.ReadLaws.{readLaws}
+use Rattle.record_parameters.proofs.ReadLaws.{read_laws}
 use Rattle.record_parameters.proofs.priors.Statement.{statement}
 use Rattle.record_parameters.proofs.priors.Tie as tie
 
@@ -20,7 +20,7 @@ optional-requires-4 : tie.Need-optional-requires-4
 optional-requires-4 c κs = search rules
 
 returns : tie.Need-returns
-returns c = search (readLaws, rules)
+returns c = search (read_laws, rules)
 
 pub priors-spec : {M : Type 1} → statement M
 priors-spec =

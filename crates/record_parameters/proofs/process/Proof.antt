@@ -1,6 +1,6 @@
 -- `record_parameters::process` meets its contract. Assumes nothing.
 use borrow.Author.Rules.{rules}
-use Rattle.record_parameters.proofs.ReadLaws.{readLaws}
+use Rattle.record_parameters.proofs.ReadLaws.{read_laws}
 use Rattle.record_parameters.proofs.process.Statement.{statement}
 use Rattle.record_parameters.proofs.process.Tie as tie
 
@@ -20,7 +20,7 @@ real-at-requires-5 : tie.Need-real-at-requires-5
 real-at-requires-5 c κs = search rules
 
 returns : tie.Need-returns
-returns c = search (readLaws, rules)
+returns c = search (read_laws, rules)
 
 pub process-spec : {M : Type 1} → statement M
 process-spec =

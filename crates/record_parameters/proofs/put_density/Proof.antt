@@ -1,6 +1,6 @@
 -- `record_parameters::put_density` meets its contract. Assumes nothing.
 use borrow.Author.Rules.{rules}
-use Rattle.record_parameters.proofs.AnswerLaws.{answerLaws}
+use Rattle.record_parameters.proofs.AnswerLaws.{answer_laws}
 use Rattle.record_parameters.proofs.put_density.Statement.{statement}
 use Rattle.record_parameters.proofs.put_density.Tie as tie
 
@@ -14,7 +14,7 @@ same_length : tie.Need-same-length
 same_length c = search rules
 
 returns : tie.Need-returns
-returns c = search (answerLaws, rules)
+returns c = search (answer_laws, rules)
 
 enum-known-density : tie.Need-enum-known-density
 enum-known-density c = search rules
@@ -32,7 +32,7 @@ same-length-2 : tie.Need-same-length-2
 same-length-2 c = search rules
 
 returns-2 : tie.Need-returns-2
-returns-2 c = search (answerLaws, rules)
+returns-2 c = search (answer_laws, rules)
 
 enum-known-density-2 : tie.Need-enum-known-density-2
 enum-known-density-2 c = search rules
@@ -44,7 +44,7 @@ same-length-3 : tie.Need-same-length-3
 same-length-3 c = search rules
 
 returns-3 : tie.Need-returns-3
-returns-3 c = search (answerLaws, rules)
+returns-3 c = search (answer_laws, rules)
 
 pub put-density-spec : {M : Type 1} → statement M
 put-density-spec =

@@ -1,6 +1,6 @@
 -- `record_parameters::put_optional` meets its contract. Assumes nothing.
 use borrow.Author.Rules.{rules}
-use Rattle.record_parameters.proofs.WriteLaws.{writeLaws}
+use Rattle.record_parameters.proofs.WriteLaws.{write_laws}
 use Rattle.record_parameters.proofs.put_optional.Statement.{statement}
 use Rattle.record_parameters.proofs.put_optional.Tie as tie
 
@@ -8,7 +8,7 @@ enum_told : tie.Need-enum-told
 enum_told c = search rules
 
 returns : tie.Need-returns
-returns c = search (writeLaws, rules)
+returns c = search (write_laws, rules)
 
 enum-known-value : tie.Need-enum-known-value
 enum-known-value c = search rules
@@ -20,7 +20,7 @@ same_length : tie.Need-same-length
 same_length c = search rules
 
 returns-2 : tie.Need-returns-2
-returns-2 c = search (writeLaws, rules)
+returns-2 c = search (write_laws, rules)
 
 pub put-optional-spec : {M : Type 1} → statement M
 put-optional-spec =

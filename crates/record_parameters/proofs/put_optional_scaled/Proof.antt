@@ -1,6 +1,6 @@
 -- `record_parameters::put_optional_scaled` meets its contract. Assumes nothing.
 use borrow.Author.Rules.{rules}
-use Rattle.record_parameters.proofs.WriteLaws.{writeLaws}
+use Rattle.record_parameters.proofs.WriteLaws.{write_laws}
 use Rattle.record_parameters.proofs.put_optional_scaled.Statement.{statement}
 use Rattle.record_parameters.proofs.put_optional_scaled.Tie as tie
 
@@ -17,7 +17,7 @@ same_length : tie.Need-same-length
 same_length c = search rules
 
 returns : tie.Need-returns
-returns c = search (writeLaws, rules)
+returns c = search (write_laws, rules)
 
 put-proposal-requires-2 : tie.Need-put-proposal-requires-2
 put-proposal-requires-2 c κs = search rules
@@ -26,7 +26,7 @@ same-length-2 : tie.Need-same-length-2
 same-length-2 c = search rules
 
 returns-2 : tie.Need-returns-2
-returns-2 c = search (writeLaws, rules)
+returns-2 c = search (write_laws, rules)
 
 pub put-optional-scaled-spec : {M : Type 1} → statement M
 put-optional-scaled-spec =

@@ -1,6 +1,6 @@
 -- `record_parameters::put_stored` meets its contract. Assumes nothing.
 use borrow.Author.Rules.{rules}
-use Rattle.record_parameters.proofs.AnswerLaws.{answerLaws}
+use Rattle.record_parameters.proofs.AnswerLaws.{answer_laws}
 use Rattle.record_parameters.proofs.put_stored.Statement.{statement}
 use Rattle.record_parameters.proofs.put_stored.Tie as tie
 
@@ -17,7 +17,7 @@ same_length : tie.Need-same-length
 same_length c = search rules
 
 returns : tie.Need-returns
-returns c = search (answerLaws, rules)
+returns c = search (answer_laws, rules)
 
 enum-known-stored-2 : tie.Need-enum-known-stored-2
 enum-known-stored-2 c = search rules
@@ -29,7 +29,7 @@ same-length-2 : tie.Need-same-length-2
 same-length-2 c = search rules
 
 returns-2 : tie.Need-returns-2
-returns-2 c = search (answerLaws, rules)
+returns-2 c = search (answer_laws, rules)
 
 pub put-stored-spec : {M : Type 1} → statement M
 put-stored-spec =

@@ -1,6 +1,6 @@
 -- `record_parameters::shapes` meets its contract. Assumes nothing.
 use borrow.Author.Rules.{rules}
-use Rattle.record_parameters.proofs.ReadLaws.{readLaws}
+use Rattle.record_parameters.proofs.ReadLaws.{read_laws}
 use Rattle.record_parameters.proofs.shapes.Statement.{statement}
 use Rattle.record_parameters.proofs.shapes.Tie as tie
 
@@ -8,7 +8,7 @@ word-requires : tie.Need-word-requires
 word-requires c κs = search rules
 
 returns : tie.Need-returns
-returns c = search (readLaws, rules)
+returns c = search (read_laws, rules)
 
 real-at-requires : tie.Need-real-at-requires
 real-at-requires c κs = search rules
@@ -17,7 +17,7 @@ real-at-requires-2 : tie.Need-real-at-requires-2
 real-at-requires-2 c κs = search rules
 
 returns-2 : tie.Need-returns-2
-returns-2 c = search (readLaws, rules)
+returns-2 c = search (read_laws, rules)
 
 pub shapes-spec : {M : Type 1} → statement M
 shapes-spec =

@@ -4,7 +4,7 @@ use Prim.Native.Nat.{◌-◌}
 use lib.ListN.{length, drop}
 use borrow.Author.Rules.{rules}
 use Rattle.replay.specs.Replay.{compared}
-use Rattle.replay.proofs.ReplayLaws.{compareLaws}
+use Rattle.replay.proofs.ReplayLaws.{compare_laws}
 use Rattle.replay.proofs.compare.Statement.{statement}
 use Rattle.replay.proofs.compare.Tie as tie
 
@@ -18,7 +18,7 @@ loop-holds : tie.Need-loop-init invariant-loop decreases-loop
 loop-holds c = search rules
 
 returns : tie.Need-returns invariant-loop decreases-loop
-returns c = search (compareLaws, rules)
+returns c = search (compare_laws, rules)
 
 shared-slice-read-if2 : tie.Need-shared-slice-read-if2 invariant-loop decreases-loop
 shared-slice-read-if2 c = search rules
@@ -27,7 +27,7 @@ shared-slice-read-if2-2 : tie.Need-shared-slice-read-if2-2 invariant-loop decrea
 shared-slice-read-if2-2 c = search rules
 
 returns-2 : tie.Need-returns-2 invariant-loop decreases-loop
-returns-2 c = search (compareLaws, rules)
+returns-2 c = search (compare_laws, rules)
 
 add-i : tie.Need-overflow-add-i invariant-loop decreases-loop
 add-i c = search rules
@@ -36,13 +36,13 @@ loop-less : tie.Need-loop-smaller invariant-loop decreases-loop
 loop-less c = search rules
 
 loop-again : tie.Need-loop-preserved invariant-loop decreases-loop
-loop-again c = search (compareLaws, rules)
+loop-again c = search (compare_laws, rules)
 
 returns-3 : tie.Need-returns-3 invariant-loop decreases-loop
-returns-3 c = search (compareLaws, rules)
+returns-3 c = search (compare_laws, rules)
 
 returns-4 : tie.Need-returns-4 invariant-loop decreases-loop
-returns-4 c = search (compareLaws, rules)
+returns-4 c = search (compare_laws, rules)
 
 pub compare-spec : {M : Type 1} → statement M
 compare-spec =

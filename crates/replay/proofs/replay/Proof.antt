@@ -1,6 +1,6 @@
 -- `replay::replay` meets its contract. Assumes nothing.
 use borrow.Author.Rules.{rules}
-use Rattle.replay.proofs.ReplayLaws.{allLaws}
+use Rattle.replay.proofs.ReplayLaws.{all_laws}
 use Rattle.replay.proofs.replay.Statement.{statement}
 use Rattle.replay.proofs.replay.Tie as tie
 
@@ -17,13 +17,13 @@ enum_told : tie.Need-enum-told
 enum_told c = search rules
 
 returns : tie.Need-returns
-returns c = search (allLaws, rules)
+returns c = search (all_laws, rules)
 
 replay-cases-requires : tie.Need-replay-cases-requires
 replay-cases-requires c κs = search rules
 
 returns-2 : tie.Need-returns-2
-returns-2 c = search (allLaws, rules)
+returns-2 c = search (all_laws, rules)
 
 pub replay-spec : {M : Type 1} → statement M
 replay-spec =

@@ -1,6 +1,6 @@
 -- `respond::answer_state` meets its contract. Assumes nothing.
 use borrow.Author.Rules.{rules}
-use Rattle.respond.proofs.StateLaws.{stateLaws, state-made, few-kept}
+use Rattle.respond.proofs.StateLaws.{state_laws, state-made, few-kept}
 use Rattle.respond.proofs.answer_state.Statement.{statement}
 use Rattle.respond.proofs.answer_state.Tie as tie
 use Rattle.respond.proofs.answer_state.Reads as reads
@@ -33,7 +33,7 @@ same-length-4 : tie.Need-same-length-4
 same-length-4 c = search rules
 
 returns : tie.Need-returns
-returns c = search (stateLaws, rules)
+returns c = search (state_laws, rules)
 
 enum-known-rooted-2 : tie.Need-enum-known-rooted-2
 enum-known-rooted-2 c = search rules

@@ -1,6 +1,6 @@
 -- `respond::make` meets its contract. Assumes nothing.
 use borrow.Author.Rules.{rules}
-use Rattle.respond.proofs.MakeLaws.{makeLaws}
+use Rattle.respond.proofs.MakeLaws.{make_laws}
 use Rattle.respond.proofs.make.Statement.{statement}
 use Rattle.respond.proofs.make.Tie as tie
 
@@ -20,7 +20,7 @@ same-length-3 : tie.Need-same-length-3
 same-length-3 c = search rules
 
 returns : tie.Need-returns
-returns c = search (makeLaws, rules)
+returns c = search (make_laws, rules)
 
 enum-told-2 : tie.Need-enum-told-2
 enum-told-2 c = search rules
@@ -38,7 +38,7 @@ same-length-6 : tie.Need-same-length-6
 same-length-6 c = search rules
 
 returns-2 : tie.Need-returns-2
-returns-2 c = search (makeLaws, rules)
+returns-2 c = search (make_laws, rules)
 
 enum-told-3 : tie.Need-enum-told-3
 enum-told-3 c = search rules
@@ -56,7 +56,7 @@ same-length-9 : tie.Need-same-length-9
 same-length-9 c = search rules
 
 returns-3 : tie.Need-returns-3
-returns-3 c = search (makeLaws, rules)
+returns-3 c = search (make_laws, rules)
 
 enum-told-4 : tie.Need-enum-told-4
 enum-told-4 c = search rules
@@ -74,7 +74,7 @@ same-length-12 : tie.Need-same-length-12
 same-length-12 c = search rules
 
 returns-4 : tie.Need-returns-4
-returns-4 c = search (makeLaws, rules)
+returns-4 c = search (make_laws, rules)
 
 enum-told-5 : tie.Need-enum-told-5
 enum-told-5 c = search rules
@@ -92,7 +92,7 @@ same-length-15 : tie.Need-same-length-15
 same-length-15 c = search rules
 
 returns-5 : tie.Need-returns-5
-returns-5 c = search (makeLaws, rules)
+returns-5 c = search (make_laws, rules)
 
 enum-told-6 : tie.Need-enum-told-6
 enum-told-6 c = search rules
@@ -110,7 +110,7 @@ same-length-18 : tie.Need-same-length-18
 same-length-18 c = search rules
 
 returns-6 : tie.Need-returns-6
-returns-6 c = search (makeLaws, rules)
+returns-6 c = search (make_laws, rules)
 
 enum-told-7 : tie.Need-enum-told-7
 enum-told-7 c = search rules
@@ -128,7 +128,7 @@ same-length-21 : tie.Need-same-length-21
 same-length-21 c = search rules
 
 returns-7 : tie.Need-returns-7
-returns-7 c = search (makeLaws, rules)
+returns-7 c = search (make_laws, rules)
 
 pub make_spec : {M : Type 1} → statement M
 make_spec =

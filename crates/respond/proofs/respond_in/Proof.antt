@@ -2,7 +2,7 @@
 use mathlib.Core.Path.{refl, sym}
 use native.Mathlib.Omega.{arith}
 use borrow.Author.Rules.{rules}
-use Rattle.respond.proofs.FileLaws.{readLaws, file-state, part-pairs, part-parents, part-heights, part-lent}
+use Rattle.respond.proofs.FileLaws.{read_laws, file-state, part-pairs, part-parents, part-heights, part-lent}
 use Rattle.respond.proofs.respond_in.Statement.{statement}
 use Rattle.respond.proofs.respond_in.Tie as tie
 
@@ -25,7 +25,7 @@ same-length-3 : tie.Need-same-length-3
 same-length-3 c = search rules
 
 returns : tie.Need-returns
-returns c = search (readLaws, rules)
+returns c = search (read_laws, rules)
 
 enum-known-read-2 : tie.Need-enum-known-read-2
 enum-known-read-2 c = search rules
@@ -46,7 +46,7 @@ same-length-6 : tie.Need-same-length-6
 same-length-6 c = search rules
 
 returns-2 : tie.Need-returns-2
-returns-2 c = search (readLaws, rules)
+returns-2 c = search (read_laws, rules)
 
 same-length-7 : tie.Need-same-length-7
 same-length-7 c = search rules

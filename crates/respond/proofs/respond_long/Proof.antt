@@ -1,6 +1,6 @@
 -- `respond::respond_long` meets its contract. Assumes nothing.
 use borrow.Author.Rules.{rules}
-use Rattle.respond.proofs.FileLaws.{triedLaws}
+use Rattle.respond.proofs.FileLaws.{tried_laws}
 use Rattle.respond.proofs.respond_long.Statement.{statement}
 use Rattle.respond.proofs.respond_long.Tie as tie
 
@@ -32,7 +32,7 @@ same_length : tie.Need-same-length
 same_length c = search rules
 
 returns : tie.Need-returns
-returns c = search (triedLaws, rules)
+returns c = search (tried_laws, rules)
 
 enum_told : tie.Need-enum-told
 enum_told c = search rules
@@ -41,7 +41,7 @@ same-length-2 : tie.Need-same-length-2
 same-length-2 c = search rules
 
 returns-2 : tie.Need-returns-2
-returns-2 c = search (triedLaws, rules)
+returns-2 c = search (tried_laws, rules)
 
 pub respond-long-spec : {M : Type 1} → statement M
 respond-long-spec =

@@ -1,6 +1,6 @@
 -- `respond::respond_short` meets its contract. Assumes nothing.
 use borrow.Author.Rules.{rules}
-use Rattle.respond.proofs.FileLaws.{triedLaws}
+use Rattle.respond.proofs.FileLaws.{tried_laws}
 use Rattle.respond.proofs.respond_short.Statement.{statement}
 use Rattle.respond.proofs.respond_short.Tie as tie
 
@@ -29,7 +29,7 @@ same_length : tie.Need-same-length
 same_length c = search rules
 
 returns : tie.Need-returns
-returns c = search (triedLaws, rules)
+returns c = search (tried_laws, rules)
 
 pub respond-short-spec : {M : Type 1} → statement M
 respond-short-spec =

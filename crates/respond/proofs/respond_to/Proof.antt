@@ -1,6 +1,6 @@
 -- `respond::respond_to` meets its contract. Assumes nothing.
 use borrow.Author.Rules.{rules}
-use Rattle.respond.proofs.FileLaws.{triedLaws}
+use Rattle.respond.proofs.FileLaws.{tried_laws}
 use Rattle.respond.proofs.respond_to.Statement.{statement}
 use Rattle.respond.proofs.respond_to.Tie as tie
 
@@ -11,7 +11,7 @@ same_length : tie.Need-same-length
 same_length c = search rules
 
 returns : tie.Need-returns
-returns c = search (triedLaws, rules)
+returns c = search (tried_laws, rules)
 
 respond-short-requires : tie.Need-respond-short-requires
 respond-short-requires c κs = search rules
@@ -23,7 +23,7 @@ same-length-2 : tie.Need-same-length-2
 same-length-2 c = search rules
 
 returns-2 : tie.Need-returns-2
-returns-2 c = search (triedLaws, rules)
+returns-2 c = search (tried_laws, rules)
 
 enum_told : tie.Need-enum-told
 enum_told c = search rules
@@ -35,7 +35,7 @@ same-length-3 : tie.Need-same-length-3
 same-length-3 c = search rules
 
 returns-3 : tie.Need-returns-3
-returns-3 c = search (triedLaws, rules)
+returns-3 c = search (tried_laws, rules)
 
 pub respond-to-spec : {M : Type 1} → statement M
 respond-to-spec =

@@ -1,6 +1,6 @@
 -- `rove::put_below` meets its contract. Assumes nothing.
 use borrow.Author.Rules.{rules}
-use Rattle.rove.proofs.ExportLaws.{drawLaws}
+use Rattle.rove.proofs.ExportLaws.{draw_laws}
 use Rattle.rove.proofs.put_below.Statement.{statement}
 use Rattle.rove.proofs.put_below.Tie as tie
 
@@ -17,7 +17,7 @@ same_length : tie.Need-same-length
 same_length c = search rules
 
 returns : tie.Need-returns
-returns c = search (drawLaws, rules)
+returns c = search (draw_laws, rules)
 
 enum-known-answer-2 : tie.Need-enum-known-answer-2
 enum-known-answer-2 c = search rules
@@ -29,7 +29,7 @@ same-length-2 : tie.Need-same-length-2
 same-length-2 c = search rules
 
 returns-2 : tie.Need-returns-2
-returns-2 c = search (drawLaws, rules)
+returns-2 c = search (draw_laws, rules)
 
 pub put-below-spec : {M : Type 1} → statement M
 put-below-spec =

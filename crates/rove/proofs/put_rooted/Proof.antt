@@ -1,6 +1,6 @@
 -- `rove::put_rooted` meets its contract. Assumes nothing.
 use borrow.Author.Rules.{rules}
-use Rattle.rove.proofs.ExportLaws.{treeLaws}
+use Rattle.rove.proofs.ExportLaws.{tree_laws}
 use Rattle.rove.proofs.put_rooted.Statement.{statement}
 use Rattle.rove.proofs.put_rooted.Tie as tie
 
@@ -17,7 +17,7 @@ same_length : tie.Need-same-length
 same_length c = search rules
 
 returns : tie.Need-returns
-returns c = search (treeLaws, rules)
+returns c = search (tree_laws, rules)
 
 enum-known-rooted-2 : tie.Need-enum-known-rooted-2
 enum-known-rooted-2 c = search rules
@@ -29,7 +29,7 @@ same-length-2 : tie.Need-same-length-2
 same-length-2 c = search rules
 
 returns-2 : tie.Need-returns-2
-returns-2 c = search (treeLaws, rules)
+returns-2 c = search (tree_laws, rules)
 
 pub put-rooted-spec : {M : Type 1} → statement M
 put-rooted-spec =

@@ -1,6 +1,6 @@
 -- `rove::put_started` meets its contract. Assumes nothing.
 use borrow.Author.Rules.{rules}
-use Rattle.rove.proofs.ExportLaws.{moveLaws}
+use Rattle.rove.proofs.ExportLaws.{move_laws}
 use Rattle.rove.proofs.put_started.Statement.{statement}
 use Rattle.rove.proofs.put_started.Tie as tie
 
@@ -26,7 +26,7 @@ same_length : tie.Need-same-length
 same_length c = search rules
 
 returns : tie.Need-returns
-returns c = search (moveLaws, rules)
+returns c = search (move_laws, rules)
 
 enum-known-answer-2 : tie.Need-enum-known-answer-2
 enum-known-answer-2 c = search rules
@@ -38,7 +38,7 @@ same-length-2 : tie.Need-same-length-2
 same-length-2 c = search rules
 
 returns-2 : tie.Need-returns-2
-returns-2 c = search (moveLaws, rules)
+returns-2 c = search (move_laws, rules)
 
 pub put-started-spec : {M : Type 1} → statement M
 put-started-spec =

@@ -1,7 +1,7 @@
 -- `rove::rove_new` meets its contract. Assumes nothing.
 use borrow.Author.Rules.{rules}
-use Rattle.record.specs.RoomLaws.{roomLaws}
-use Rattle.rove.proofs.ExportLaws.{treeLaws}
+use Rattle.record.specs.RoomLaws.{room_laws}
+use Rattle.rove.proofs.ExportLaws.{tree_laws}
 use Rattle.rove.proofs.rove_new.Statement.{statement}
 use Rattle.rove.proofs.rove_new.Tie as tie
 
@@ -12,7 +12,7 @@ new-requires : tie.Need-new-requires
 new-requires c κs = search rules
 
 put-rooted-requires : tie.Need-put-rooted-requires
-put-rooted-requires c κs = search (roomLaws, rules)
+put-rooted-requires c κs = search (room_laws, rules)
 
 same_length : tie.Need-same-length
 same_length c = search rules
@@ -21,13 +21,13 @@ same-length-2 : tie.Need-same-length-2
 same-length-2 c = search rules
 
 returns : tie.Need-returns
-returns c = search (treeLaws, rules)
+returns c = search (tree_laws, rules)
 
 same-length-3 : tie.Need-same-length-3
 same-length-3 c = search rules
 
 returns-2 : tie.Need-returns-2
-returns-2 c = search (treeLaws, rules)
+returns-2 c = search (tree_laws, rules)
 
 pub rove-new-spec : {M : Type 1} → statement M
 rove-new-spec =

@@ -1,7 +1,7 @@
 -- `rove::rove_next_u64` meets its contract. Assumes nothing.
 use borrow.Author.Rules.{rules}
-use Rattle.record.specs.RoomLaws.{roomLaws}
-use Rattle.rove.proofs.ExportLaws.{drawLaws}
+use Rattle.record.specs.RoomLaws.{room_laws}
+use Rattle.rove.proofs.ExportLaws.{draw_laws}
 use Rattle.rove.proofs.rove_next_u64.Statement.{statement}
 use Rattle.rove.proofs.rove_next_u64.Tie as tie
 
@@ -15,22 +15,22 @@ next-u64-requires : tie.Need-next-u64-requires
 next-u64-requires c κs = search rules
 
 put-generator-requires : tie.Need-put-generator-requires
-put-generator-requires c κs = search (roomLaws, rules)
+put-generator-requires c κs = search (room_laws, rules)
 
 put-given-requires : tie.Need-put-given-requires
-put-given-requires c κs = search (roomLaws, rules)
+put-given-requires c κs = search (room_laws, rules)
 
 same_length : tie.Need-same-length
 same_length c = search rules
 
 returns : tie.Need-returns
-returns c = search (drawLaws, rules)
+returns c = search (draw_laws, rules)
 
 same-length-2 : tie.Need-same-length-2
 same-length-2 c = search rules
 
 returns-2 : tie.Need-returns-2
-returns-2 c = search (drawLaws, rules)
+returns-2 c = search (draw_laws, rules)
 
 pub rove-next-u64-spec : {M : Type 1} → statement M
 rove-next-u64-spec =

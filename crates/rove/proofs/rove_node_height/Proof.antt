@@ -1,7 +1,7 @@
 -- `rove::rove_node_height` meets its contract. Assumes nothing.
 use borrow.Author.Rules.{rules}
-use Rattle.record.specs.RoomLaws.{roomLaws}
-use Rattle.rove.proofs.ExportLaws.{moveLaws}
+use Rattle.record.specs.RoomLaws.{room_laws}
+use Rattle.rove.proofs.ExportLaws.{move_laws}
 use Rattle.rove.proofs.rove_node_height.Statement.{statement}
 use Rattle.rove.proofs.rove_node_height.Tie as tie
 
@@ -15,7 +15,7 @@ node-height-requires : tie.Need-node-height-requires
 node-height-requires c κs = search rules
 
 put-answer-requires : tie.Need-put-answer-requires
-put-answer-requires c κs = search (roomLaws, rules)
+put-answer-requires c κs = search (room_laws, rules)
 
 same_length : tie.Need-same-length
 same_length c = search rules
@@ -24,13 +24,13 @@ same-length-2 : tie.Need-same-length-2
 same-length-2 c = search rules
 
 returns : tie.Need-returns
-returns c = search (moveLaws, rules)
+returns c = search (move_laws, rules)
 
 same-length-3 : tie.Need-same-length-3
 same-length-3 c = search rules
 
 returns-2 : tie.Need-returns-2
-returns-2 c = search (moveLaws, rules)
+returns-2 c = search (move_laws, rules)
 
 pub rove-node-height-spec : {M : Type 1} → statement M
 rove-node-height-spec =

@@ -1,7 +1,7 @@
 -- `rove::rove_postorder` meets its contract. Assumes nothing.
 use borrow.Author.Rules.{rules}
-use Rattle.record.specs.RoomLaws.{roomLaws}
-use Rattle.rove.proofs.ExportLaws.{treeLaws}
+use Rattle.record.specs.RoomLaws.{room_laws}
+use Rattle.rove.proofs.ExportLaws.{tree_laws}
 use Rattle.rove.proofs.rove_postorder.Statement.{statement}
 use Rattle.rove.proofs.rove_postorder.Tie as tie
 
@@ -15,7 +15,7 @@ postorder-requires : tie.Need-postorder-requires
 postorder-requires c κs = search rules
 
 put-verdict-requires : tie.Need-put-verdict-requires
-put-verdict-requires c κs = search (roomLaws, rules)
+put-verdict-requires c κs = search (room_laws, rules)
 
 same_length : tie.Need-same-length
 same_length c = search rules
@@ -24,13 +24,13 @@ same-length-2 : tie.Need-same-length-2
 same-length-2 c = search rules
 
 returns : tie.Need-returns
-returns c = search (treeLaws, rules)
+returns c = search (tree_laws, rules)
 
 same-length-3 : tie.Need-same-length-3
 same-length-3 c = search rules
 
 returns-2 : tie.Need-returns-2
-returns-2 c = search (treeLaws, rules)
+returns-2 c = search (tree_laws, rules)
 
 pub rove-postorder-spec : {M : Type 1} → statement M
 rove-postorder-spec =

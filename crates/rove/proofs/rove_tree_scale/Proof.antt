@@ -1,7 +1,7 @@
 -- `rove::rove_tree_scale` meets its contract. Assumes nothing.
 use borrow.Author.Rules.{rules}
-use Rattle.record.specs.RoomLaws.{roomLaws}
-use Rattle.rove.proofs.ExportLaws.{moveLaws}
+use Rattle.record.specs.RoomLaws.{room_laws}
+use Rattle.rove.proofs.ExportLaws.{move_laws}
 use Rattle.rove.proofs.rove_tree_scale.Statement.{statement}
 use Rattle.rove.proofs.rove_tree_scale.Tie as tie
 
@@ -18,7 +18,7 @@ tree-scale-requires : tie.Need-tree-scale-requires
 tree-scale-requires c κs = search rules
 
 put-answer-requires : tie.Need-put-answer-requires
-put-answer-requires c κs = search (roomLaws, rules)
+put-answer-requires c κs = search (room_laws, rules)
 
 same_length : tie.Need-same-length
 same_length c = search rules
@@ -27,13 +27,13 @@ same-length-2 : tie.Need-same-length-2
 same-length-2 c = search rules
 
 returns : tie.Need-returns
-returns c = search (moveLaws, rules)
+returns c = search (move_laws, rules)
 
 same-length-3 : tie.Need-same-length-3
 same-length-3 c = search rules
 
 returns-2 : tie.Need-returns-2
-returns-2 c = search (moveLaws, rules)
+returns-2 c = search (move_laws, rules)
 
 pub rove-tree-scale-spec : {M : Type 1} → statement M
 rove-tree-scale-spec =

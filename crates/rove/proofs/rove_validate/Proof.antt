@@ -1,7 +1,7 @@
 -- `rove::rove_validate` meets its contract. Assumes nothing.
 use borrow.Author.Rules.{rules}
-use Rattle.record.specs.RoomLaws.{roomLaws}
-use Rattle.rove.proofs.ExportLaws.{treeLaws}
+use Rattle.record.specs.RoomLaws.{room_laws}
+use Rattle.rove.proofs.ExportLaws.{tree_laws}
 use Rattle.rove.proofs.rove_validate.Statement.{statement}
 use Rattle.rove.proofs.rove_validate.Tie as tie
 
@@ -15,19 +15,19 @@ validate-requires : tie.Need-validate-requires
 validate-requires c κs = search rules
 
 put-verdict-requires : tie.Need-put-verdict-requires
-put-verdict-requires c κs = search (roomLaws, rules)
+put-verdict-requires c κs = search (room_laws, rules)
 
 same_length : tie.Need-same-length
 same_length c = search rules
 
 returns : tie.Need-returns
-returns c = search (treeLaws, rules)
+returns c = search (tree_laws, rules)
 
 same-length-2 : tie.Need-same-length-2
 same-length-2 c = search rules
 
 returns-2 : tie.Need-returns-2
-returns-2 c = search (treeLaws, rules)
+returns-2 c = search (tree_laws, rules)
 
 pub rove-validate-spec : {M : Type 1} → statement M
 rove-validate-spec =

@@ -1,7 +1,7 @@
 -- `rove::rove_wilson_balding` meets its contract. Assumes nothing.
 use borrow.Author.Rules.{rules}
-use Rattle.record.specs.RoomLaws.{roomLaws}
-use Rattle.rove.proofs.ExportLaws.{moveLaws}
+use Rattle.record.specs.RoomLaws.{room_laws}
+use Rattle.rove.proofs.ExportLaws.{move_laws}
 use Rattle.rove.proofs.rove_wilson_balding.Statement.{statement}
 use Rattle.rove.proofs.rove_wilson_balding.Tie as tie
 
@@ -15,7 +15,7 @@ wilson-balding-requires : tie.Need-wilson-balding-requires
 wilson-balding-requires c κs = search rules
 
 put-answer-requires : tie.Need-put-answer-requires
-put-answer-requires c κs = search (roomLaws, rules)
+put-answer-requires c κs = search (room_laws, rules)
 
 same_length : tie.Need-same-length
 same_length c = search rules
@@ -30,13 +30,13 @@ same-length-4 : tie.Need-same-length-4
 same-length-4 c = search rules
 
 returns : tie.Need-returns
-returns c = search (moveLaws, rules)
+returns c = search (move_laws, rules)
 
 same-length-5 : tie.Need-same-length-5
 same-length-5 c = search rules
 
 returns-2 : tie.Need-returns-2
-returns-2 c = search (moveLaws, rules)
+returns-2 c = search (move_laws, rules)
 
 pub rove-wilson-balding-spec : {M : Type 1} → statement M
 rove-wilson-balding-spec =

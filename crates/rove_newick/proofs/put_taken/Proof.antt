@@ -1,6 +1,6 @@
 -- `rove_newick::put_taken` meets its contract. Assumes nothing.
 use borrow.Author.Rules.{rules}
-use Rattle.rove_newick.proofs.CopyLaws.{answerLaws}
+use Rattle.rove_newick.proofs.CopyLaws.{answer_laws}
 use Rattle.rove_newick.proofs.put_taken.Statement.{statement}
 use Rattle.rove_newick.proofs.put_taken.Tie as tie
 
@@ -14,7 +14,7 @@ same_length : tie.Need-same-length
 same_length c = search rules
 
 returns : tie.Need-returns
-returns c = search (answerLaws, rules)
+returns c = search (answer_laws, rules)
 
 enum-known-taken-2 : tie.Need-enum-known-taken-2
 enum-known-taken-2 c = search rules
@@ -26,7 +26,7 @@ same-length-2 : tie.Need-same-length-2
 same-length-2 c = search rules
 
 returns-2 : tie.Need-returns-2
-returns-2 c = search (answerLaws, rules)
+returns-2 c = search (answer_laws, rules)
 
 enum_told : tie.Need-enum-told
 enum_told c = search rules
@@ -38,7 +38,7 @@ same-length-3 : tie.Need-same-length-3
 same-length-3 c = search rules
 
 returns-3 : tie.Need-returns-3
-returns-3 c = search (answerLaws, rules)
+returns-3 c = search (answer_laws, rules)
 
 pub put-taken-spec : {M : Type 1} → statement M
 put-taken-spec =

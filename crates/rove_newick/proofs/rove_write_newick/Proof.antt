@@ -1,7 +1,7 @@
 -- `rove_newick::rove_write_newick` meets its contract. Assumes nothing.
 use borrow.Author.Rules.{rules}
-use Rattle.record.specs.RoomLaws.{roomLaws}
-use Rattle.rove_newick.proofs.CopyLaws.{newickLaws}
+use Rattle.record.specs.RoomLaws.{room_laws}
+use Rattle.rove_newick.proofs.CopyLaws.{newick_laws}
 use Rattle.rove_newick.proofs.rove_write_newick.Statement.{statement}
 use Rattle.rove_newick.proofs.rove_write_newick.Tie as tie
 
@@ -15,7 +15,7 @@ write-requires : tie.Need-write-requires
 write-requires c κs = search rules
 
 put-copied-requires : tie.Need-put-copied-requires
-put-copied-requires c κs = search (roomLaws, rules)
+put-copied-requires c κs = search (room_laws, rules)
 
 same_length : tie.Need-same-length
 same_length c = search rules
@@ -24,13 +24,13 @@ same-length-2 : tie.Need-same-length-2
 same-length-2 c = search rules
 
 returns : tie.Need-returns
-returns c = search (newickLaws, rules)
+returns c = search (newick_laws, rules)
 
 same-length-3 : tie.Need-same-length-3
 same-length-3 c = search rules
 
 returns-2 : tie.Need-returns-2
-returns-2 c = search (newickLaws, rules)
+returns-2 c = search (newick_laws, rules)
 
 pub rove-write-newick-spec : {M : Type 1} → statement M
 rove-write-newick-spec =

@@ -1,6 +1,6 @@
 -- `rove_parameters::field_scale` meets its contract. Assumes nothing.
 use borrow.Author.Rules.{rules}
-use Rattle.rove_parameters.proofs.ProposalLaws.{proposalLaws}
+use Rattle.rove_parameters.proofs.ProposalLaws.{proposal_laws}
 use Rattle.rove_parameters.proofs.field_scale.Statement.{statement}
 use Rattle.rove_parameters.proofs.field_scale.Tie as tie
 
@@ -32,7 +32,7 @@ same_length : tie.Need-same-length
 same_length c = search rules
 
 returns : tie.Need-returns
-returns c = search (proposalLaws, rules)
+returns c = search (proposal_laws, rules)
 
 pub field-scale-spec : {M : Type 1} → statement M
 field-scale-spec =

@@ -1,8 +1,8 @@
 -- `rove_parameters::rove_branch_rate_scale` meets its contract. Assumes nothing.
 use borrow.Author.Rules.{rules}
-use Rattle.record.specs.RoomLaws.{roomLaws}
-use Rattle.rove_parameters.proofs.ProposalLaws.{proposalLaws}
-use Rattle.rove_parameters.proofs.RecordLaws.{recordLaws}
+use Rattle.record.specs.RoomLaws.{room_laws}
+use Rattle.rove_parameters.proofs.ProposalLaws.{proposal_laws}
+use Rattle.rove_parameters.proofs.RecordLaws.{record_laws}
 use Rattle.rove_parameters.proofs.rove_branch_rate_scale.Statement.{statement}
 use Rattle.rove_parameters.proofs.rove_branch_rate_scale.Tie as tie
 
@@ -25,7 +25,7 @@ branch-rate-scale-requires : tie.Need-branch-rate-scale-requires
 branch-rate-scale-requires c κs = search rules
 
 put-proposal-requires : tie.Need-put-proposal-requires
-put-proposal-requires c κs = search (roomLaws, rules)
+put-proposal-requires c κs = search (room_laws, rules)
 
 same_length : tie.Need-same-length
 same_length c = search rules
@@ -34,13 +34,13 @@ same-length-2 : tie.Need-same-length-2
 same-length-2 c = search rules
 
 returns : tie.Need-returns
-returns c = search (recordLaws, proposalLaws, rules)
+returns c = search (record_laws, proposal_laws, rules)
 
 same-length-3 : tie.Need-same-length-3
 same-length-3 c = search rules
 
 returns-2 : tie.Need-returns-2
-returns-2 c = search (recordLaws, proposalLaws, rules)
+returns-2 c = search (record_laws, proposal_laws, rules)
 
 pub rove-branch-rate-scale-spec : {M : Type 1} → statement M
 rove-branch-rate-scale-spec =

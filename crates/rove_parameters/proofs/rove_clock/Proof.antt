@@ -1,8 +1,8 @@
 -- `rove_parameters::rove_clock` meets its contract. Assumes nothing.
 use borrow.Author.Rules.{rules}
-use Rattle.record.specs.RoomLaws.{roomLaws}
-use Rattle.rove_parameters.proofs.AskLaws.{clockLaws}
-use Rattle.rove_parameters.proofs.RecordLaws.{recordLaws}
+use Rattle.record.specs.RoomLaws.{room_laws}
+use Rattle.rove_parameters.proofs.AskLaws.{clock_laws}
+use Rattle.rove_parameters.proofs.RecordLaws.{record_laws}
 use Rattle.rove_parameters.proofs.rove_clock.Statement.{statement}
 use Rattle.rove_parameters.proofs.rove_clock.Tie as tie
 
@@ -16,19 +16,19 @@ new-requires : tie.Need-new-requires
 new-requires c κs = search rules
 
 put-verdict-requires : tie.Need-put-verdict-requires
-put-verdict-requires c κs = search (roomLaws, rules)
+put-verdict-requires c κs = search (room_laws, rules)
 
 same_length : tie.Need-same-length
 same_length c = search rules
 
 returns : tie.Need-returns
-returns c = search (recordLaws, clockLaws, rules)
+returns c = search (record_laws, clock_laws, rules)
 
 same-length-2 : tie.Need-same-length-2
 same-length-2 c = search rules
 
 returns-2 : tie.Need-returns-2
-returns-2 c = search (recordLaws, clockLaws, rules)
+returns-2 c = search (record_laws, clock_laws, rules)
 
 pub rove-clock-spec : {M : Type 1} → statement M
 rove-clock-spec =

@@ -1,8 +1,8 @@
 -- `rove_parameters::rove_propose_age` meets its contract. Assumes nothing.
 use borrow.Author.Rules.{rules}
 use Rattle.record.specs.RoomLaws.{recorded}
-use Rattle.rove_parameters.proofs.AskLaws.{treeLaws}
-use Rattle.rove_parameters.proofs.RecordLaws.{recordLaws}
+use Rattle.rove_parameters.proofs.AskLaws.{tree_laws}
+use Rattle.rove_parameters.proofs.RecordLaws.{record_laws}
 use Rattle.rove_parameters.proofs.rove_propose_age.Statement.{statement}
 use Rattle.rove_parameters.proofs.rove_propose_age.Tie as tie
 
@@ -34,13 +34,13 @@ same-length-2 : tie.Need-same-length-2
 same-length-2 c = search rules
 
 returns : tie.Need-returns
-returns c = search (recordLaws, treeLaws, rules)
+returns c = search (record_laws, tree_laws, rules)
 
 same-length-3 : tie.Need-same-length-3
 same-length-3 c = search rules
 
 returns-2 : tie.Need-returns-2
-returns-2 c = search (recordLaws, treeLaws, rules)
+returns-2 c = search (record_laws, tree_laws, rules)
 
 pub rove-propose-age-spec : {M : Type 1} → statement M
 rove-propose-age-spec =

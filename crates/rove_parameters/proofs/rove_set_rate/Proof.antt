@@ -1,8 +1,8 @@
 -- `rove_parameters::rove_set_rate` meets its contract. Assumes nothing.
 use borrow.Author.Rules.{rules}
-use Rattle.record.specs.RoomLaws.{roomLaws}
-use Rattle.rove_parameters.proofs.AskLaws.{clockLaws}
-use Rattle.rove_parameters.proofs.RecordLaws.{recordLaws}
+use Rattle.record.specs.RoomLaws.{room_laws}
+use Rattle.rove_parameters.proofs.AskLaws.{clock_laws}
+use Rattle.rove_parameters.proofs.RecordLaws.{record_laws}
 use Rattle.rove_parameters.proofs.rove_set_rate.Statement.{statement}
 use Rattle.rove_parameters.proofs.rove_set_rate.Tie as tie
 
@@ -22,7 +22,7 @@ set-rate-requires : tie.Need-set-rate-requires
 set-rate-requires c κs = search rules
 
 put-stored-requires : tie.Need-put-stored-requires
-put-stored-requires c κs = search (roomLaws, rules)
+put-stored-requires c κs = search (room_laws, rules)
 
 same_length : tie.Need-same-length
 same_length c = search rules
@@ -31,13 +31,13 @@ same-length-2 : tie.Need-same-length-2
 same-length-2 c = search rules
 
 returns : tie.Need-returns
-returns c = search (recordLaws, clockLaws, rules)
+returns c = search (record_laws, clock_laws, rules)
 
 same-length-3 : tie.Need-same-length-3
 same-length-3 c = search rules
 
 returns-2 : tie.Need-returns-2
-returns-2 c = search (recordLaws, clockLaws, rules)
+returns-2 c = search (record_laws, clock_laws, rules)
 
 pub rove-set-rate-spec : {M : Type 1} → statement M
 rove-set-rate-spec =

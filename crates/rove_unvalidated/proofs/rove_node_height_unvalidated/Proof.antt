@@ -1,7 +1,7 @@
 -- `rove_unvalidated::rove_node_height_unvalidated` meets its contract. Assumes nothing.
 use borrow.Author.Rules.{rules}
-use Rattle.record.specs.RoomLaws.{roomLaws}
-use Rattle.rove_unvalidated.proofs.UnvalidatedLaws.{moveLaws}
+use Rattle.record.specs.RoomLaws.{room_laws}
+use Rattle.rove_unvalidated.proofs.UnvalidatedLaws.{move_laws}
 use Rattle.rove_unvalidated.proofs.rove_node_height_unvalidated.Statement.{statement}
 use Rattle.rove_unvalidated.proofs.rove_node_height_unvalidated.Tie as tie
 
@@ -15,7 +15,7 @@ node-height-unvalidated-requires : tie.Need-node-height-unvalidated-requires
 node-height-unvalidated-requires c κs = search rules
 
 put-answer-requires : tie.Need-put-answer-requires
-put-answer-requires c κs = search (roomLaws, rules)
+put-answer-requires c κs = search (room_laws, rules)
 
 same_length : tie.Need-same-length
 same_length c = search rules
@@ -24,7 +24,7 @@ same-length-2 : tie.Need-same-length-2
 same-length-2 c = search rules
 
 returns : tie.Need-returns
-returns c = search (moveLaws, rules)
+returns c = search (move_laws, rules)
 
 put-unready-requires : tie.Need-put-unready-requires
 put-unready-requires c κs = search rules
@@ -33,7 +33,7 @@ same-length-3 : tie.Need-same-length-3
 same-length-3 c = search rules
 
 returns-2 : tie.Need-returns-2
-returns-2 c = search (moveLaws, rules)
+returns-2 c = search (move_laws, rules)
 
 pub rove-node-height-unvalidated-spec : {M : Type 1} → statement M
 rove-node-height-unvalidated-spec =

@@ -1,7 +1,7 @@
 -- `rove_unvalidated::rove_wilson_balding_unvalidated` meets its contract. Assumes nothing.
 use borrow.Author.Rules.{rules}
-use Rattle.record.specs.RoomLaws.{roomLaws}
-use Rattle.rove_unvalidated.proofs.UnvalidatedLaws.{moveLaws}
+use Rattle.record.specs.RoomLaws.{room_laws}
+use Rattle.rove_unvalidated.proofs.UnvalidatedLaws.{move_laws}
 use Rattle.rove_unvalidated.proofs.rove_wilson_balding_unvalidated.Statement.{statement}
 use Rattle.rove_unvalidated.proofs.rove_wilson_balding_unvalidated.Tie as tie
 
@@ -15,7 +15,7 @@ wilson-balding-unvalidated-requires : tie.Need-wilson-balding-unvalidated-requir
 wilson-balding-unvalidated-requires c κs = search rules
 
 put-answer-requires : tie.Need-put-answer-requires
-put-answer-requires c κs = search (roomLaws, rules)
+put-answer-requires c κs = search (room_laws, rules)
 
 same_length : tie.Need-same-length
 same_length c = search rules
@@ -30,7 +30,7 @@ same-length-4 : tie.Need-same-length-4
 same-length-4 c = search rules
 
 returns : tie.Need-returns
-returns c = search (moveLaws, rules)
+returns c = search (move_laws, rules)
 
 put-unready-requires : tie.Need-put-unready-requires
 put-unready-requires c κs = search rules
@@ -39,7 +39,7 @@ same-length-5 : tie.Need-same-length-5
 same-length-5 c = search rules
 
 returns-2 : tie.Need-returns-2
-returns-2 c = search (moveLaws, rules)
+returns-2 c = search (move_laws, rules)
 
 pub rove-wilson-balding-unvalidated-spec : {M : Type 1} → statement M
 rove-wilson-balding-unvalidated-spec =

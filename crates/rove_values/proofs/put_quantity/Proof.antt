@@ -1,6 +1,6 @@
 -- `rove_values::put_quantity` meets its contract. Assumes nothing.
 use borrow.Author.Rules.{rules}
-use Rattle.rove_values.proofs.ValueLaws.{lengthLaws}
+use Rattle.rove_values.proofs.ValueLaws.{length_laws}
 use Rattle.rove_values.proofs.put_quantity.Statement.{statement}
 use Rattle.rove_values.proofs.put_quantity.Tie as tie
 
@@ -17,7 +17,7 @@ same_length : tie.Need-same-length
 same_length c = search rules
 
 returns : tie.Need-returns
-returns c = search (lengthLaws, rules)
+returns c = search (length_laws, rules)
 
 enum-known-quantity-2 : tie.Need-enum-known-quantity-2
 enum-known-quantity-2 c = search rules
@@ -29,7 +29,7 @@ same-length-2 : tie.Need-same-length-2
 same-length-2 c = search rules
 
 returns-2 : tie.Need-returns-2
-returns-2 c = search (lengthLaws, rules)
+returns-2 c = search (length_laws, rules)
 
 pub put-quantity-spec : {M : Type 1} → statement M
 put-quantity-spec =

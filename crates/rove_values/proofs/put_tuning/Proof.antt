@@ -1,6 +1,6 @@
 -- `rove_values::put_tuning` meets its contract. Assumes nothing.
 use borrow.Author.Rules.{rules}
-use Rattle.rove_values.proofs.ValueLaws.{moveLaws}
+use Rattle.rove_values.proofs.ValueLaws.{move_laws}
 use Rattle.rove_values.proofs.put_tuning.Statement.{statement}
 use Rattle.rove_values.proofs.put_tuning.Tie as tie
 
@@ -17,7 +17,7 @@ same_length : tie.Need-same-length
 same_length c = search rules
 
 returns : tie.Need-returns
-returns c = search (moveLaws, rules)
+returns c = search (move_laws, rules)
 
 enum_told : tie.Need-enum-told
 enum_told c = search rules
@@ -29,7 +29,7 @@ same-length-2 : tie.Need-same-length-2
 same-length-2 c = search rules
 
 returns-2 : tie.Need-returns-2
-returns-2 c = search (moveLaws, rules)
+returns-2 c = search (move_laws, rules)
 
 pub put-tuning-spec : {M : Type 1} → statement M
 put-tuning-spec =

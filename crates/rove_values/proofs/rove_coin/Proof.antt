@@ -1,7 +1,7 @@
 -- `rove_values::rove_coin` meets its contract. Assumes nothing.
 use borrow.Author.Rules.{rules}
-use Rattle.record.specs.RoomLaws.{roomLaws}
-use Rattle.rove_values.proofs.ValueLaws.{drawLaws}
+use Rattle.record.specs.RoomLaws.{room_laws}
+use Rattle.rove_values.proofs.ValueLaws.{draw_laws}
 use Rattle.rove_values.proofs.rove_coin.Statement.{statement}
 use Rattle.rove_values.proofs.rove_coin.Tie as tie
 
@@ -15,25 +15,25 @@ coin-requires : tie.Need-coin-requires
 coin-requires c κs = search rules
 
 put-generator-requires : tie.Need-put-generator-requires
-put-generator-requires c κs = search (roomLaws, rules)
+put-generator-requires c κs = search (room_laws, rules)
 
 flag-requires : tie.Need-flag-requires
 flag-requires c κs = search rules
 
 put-given-requires : tie.Need-put-given-requires
-put-given-requires c κs = search (roomLaws, rules)
+put-given-requires c κs = search (room_laws, rules)
 
 same_length : tie.Need-same-length
 same_length c = search rules
 
 returns : tie.Need-returns
-returns c = search (drawLaws, rules)
+returns c = search (draw_laws, rules)
 
 same-length-2 : tie.Need-same-length-2
 same-length-2 c = search rules
 
 returns-2 : tie.Need-returns-2
-returns-2 c = search (drawLaws, rules)
+returns-2 c = search (draw_laws, rules)
 
 pub rove-coin-spec : {M : Type 1} → statement M
 rove-coin-spec =

@@ -1,7 +1,7 @@
 -- `rove_values::rove_estimates` meets its contract. Assumes nothing.
 use borrow.Author.Rules.{rules}
-use Rattle.record.specs.RoomLaws.{roomLaws}
-use Rattle.rove_values.proofs.ValueLaws.{moveLaws, recordLaws}
+use Rattle.record.specs.RoomLaws.{room_laws}
+use Rattle.rove_values.proofs.ValueLaws.{move_laws, record_laws}
 use Rattle.rove_values.proofs.rove_estimates.Statement.{statement}
 use Rattle.rove_values.proofs.rove_estimates.Tie as tie
 
@@ -21,31 +21,31 @@ estimates-requires : tie.Need-estimates-requires
 estimates-requires c κs = search rules
 
 put-flag-requires : tie.Need-put-flag-requires
-put-flag-requires c κs = search (roomLaws, rules)
+put-flag-requires c κs = search (room_laws, rules)
 
 same_length : tie.Need-same-length
 same_length c = search rules
 
 returns : tie.Need-returns
-returns c = search (recordLaws, moveLaws, rules)
+returns c = search (record_laws, move_laws, rules)
 
 enum_told : tie.Need-enum-told
 enum_told c = search rules
 
 put-refusal-requires : tie.Need-put-refusal-requires
-put-refusal-requires c κs = search (roomLaws, rules)
+put-refusal-requires c κs = search (room_laws, rules)
 
 same-length-2 : tie.Need-same-length-2
 same-length-2 c = search rules
 
 returns-2 : tie.Need-returns-2
-returns-2 c = search (recordLaws, moveLaws, rules)
+returns-2 c = search (record_laws, move_laws, rules)
 
 same-length-3 : tie.Need-same-length-3
 same-length-3 c = search rules
 
 returns-3 : tie.Need-returns-3
-returns-3 c = search (recordLaws, moveLaws, rules)
+returns-3 c = search (record_laws, move_laws, rules)
 
 pub rove-estimates-spec : {M : Type 1} → statement M
 rove-estimates-spec =

@@ -1,7 +1,7 @@
 -- `rove_values::rove_scaler` meets its contract. Assumes nothing.
 use borrow.Author.Rules.{rules}
-use Rattle.record.specs.RoomLaws.{roomLaws}
-use Rattle.rove_values.proofs.ValueLaws.{drawLaws, recordLaws}
+use Rattle.record.specs.RoomLaws.{room_laws}
+use Rattle.rove_values.proofs.ValueLaws.{draw_laws, record_laws}
 use Rattle.rove_values.proofs.rove_scaler.Statement.{statement}
 use Rattle.rove_values.proofs.rove_scaler.Tie as tie
 
@@ -21,19 +21,19 @@ to-bits-requires : tie.Need-to-bits-requires
 to-bits-requires c κs = search rules
 
 put-given-requires : tie.Need-put-given-requires
-put-given-requires c κs = search (roomLaws, rules)
+put-given-requires c κs = search (room_laws, rules)
 
 same_length : tie.Need-same-length
 same_length c = search rules
 
 returns : tie.Need-returns
-returns c = search (recordLaws, drawLaws, rules)
+returns c = search (record_laws, draw_laws, rules)
 
 same-length-2 : tie.Need-same-length-2
 same-length-2 c = search rules
 
 returns-2 : tie.Need-returns-2
-returns-2 c = search (recordLaws, drawLaws, rules)
+returns-2 c = search (record_laws, draw_laws, rules)
 
 pub rove-scaler-spec : {M : Type 1} → statement M
 rove-scaler-spec =

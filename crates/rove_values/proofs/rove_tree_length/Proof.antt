@@ -1,7 +1,7 @@
 -- `rove_values::rove_tree_length` meets its contract. Assumes nothing.
 use borrow.Author.Rules.{rules}
-use Rattle.record.specs.RoomLaws.{roomLaws}
-use Rattle.rove_values.proofs.ValueLaws.{lengthLaws, recordLaws}
+use Rattle.record.specs.RoomLaws.{room_laws}
+use Rattle.rove_values.proofs.ValueLaws.{length_laws, record_laws}
 use Rattle.rove_values.proofs.rove_tree_length.Statement.{statement}
 use Rattle.rove_values.proofs.rove_tree_length.Tie as tie
 
@@ -12,19 +12,19 @@ tree-length-requires : tie.Need-tree-length-requires
 tree-length-requires c κs = search rules
 
 put-quantity-requires : tie.Need-put-quantity-requires
-put-quantity-requires c κs = search (roomLaws, rules)
+put-quantity-requires c κs = search (room_laws, rules)
 
 same_length : tie.Need-same-length
 same_length c = search rules
 
 returns : tie.Need-returns
-returns c = search (recordLaws, lengthLaws, rules)
+returns c = search (record_laws, length_laws, rules)
 
 same-length-2 : tie.Need-same-length-2
 same-length-2 c = search rules
 
 returns-2 : tie.Need-returns-2
-returns-2 c = search (recordLaws, lengthLaws, rules)
+returns-2 c = search (record_laws, length_laws, rules)
 
 pub rove-tree-length-spec : {M : Type 1} → statement M
 rove-tree-length-spec =

@@ -1,38 +1,38 @@
 -- `scales::birth_difference_scale` meets its contract. Assumes nothing.
 use borrow.Author.Rules.{rules}
-use Rattle.scales.proofs.UseLaws.{differenceLaws}
+use Rattle.scales.proofs.UseLaws.{difference_laws}
 use Rattle.scales.proofs.birth_difference_scale.Statement.{statement}
 use Rattle.scales.proofs.birth_difference_scale.Tie as tie
 
 enum-known-speciation : tie.Need-enum-known-speciation
-enum-known-speciation c = search (differenceLaws, rules)
+enum-known-speciation c = search (difference_laws, rules)
 
 is-scalable-requires : tie.Need-is-scalable-requires
-is-scalable-requires c κs = search (differenceLaws, rules)
+is-scalable-requires c κs = search (difference_laws, rules)
 
 undrawn-requires : tie.Need-undrawn-requires
-undrawn-requires c κs = search (differenceLaws, rules)
+undrawn-requires c κs = search (difference_laws, rules)
 
 returns : tie.Need-returns
-returns c = search (differenceLaws, rules)
+returns c = search (difference_laws, rules)
 
 enum-known-speciation-2 : tie.Need-enum-known-speciation-2
-enum-known-speciation-2 c = search (differenceLaws, rules)
+enum-known-speciation-2 c = search (difference_laws, rules)
 
 is-finite-requires : tie.Need-is-finite-requires
-is-finite-requires c κs = search (differenceLaws, rules)
+is-finite-requires c κs = search (difference_laws, rules)
 
 scale-requires : tie.Need-scale-requires
-scale-requires c κs = search (differenceLaws, rules)
+scale-requires c κs = search (difference_laws, rules)
 
 returns-2 : tie.Need-returns-2
-returns-2 c = search (differenceLaws, rules)
+returns-2 c = search (difference_laws, rules)
 
 refuse-speciation-requires : tie.Need-refuse-speciation-requires
-refuse-speciation-requires c κs = search (differenceLaws, rules)
+refuse-speciation-requires c κs = search (difference_laws, rules)
 
 returns-3 : tie.Need-returns-3
-returns-3 c = search (differenceLaws, rules)
+returns-3 c = search (difference_laws, rules)
 
 pub birth-difference-scale-spec : {M : Type 1} → statement M
 birth-difference-scale-spec =

@@ -1,38 +1,38 @@
 -- `scales::birth_rate_scale` meets its contract. Assumes nothing.
 use borrow.Author.Rules.{rules}
-use Rattle.scales.proofs.UseLaws.{rateLaws}
+use Rattle.scales.proofs.UseLaws.{rate_laws}
 use Rattle.scales.proofs.birth_rate_scale.Statement.{statement}
 use Rattle.scales.proofs.birth_rate_scale.Tie as tie
 
 enum-known-speciation : tie.Need-enum-known-speciation
-enum-known-speciation c = search (rateLaws, rules)
+enum-known-speciation c = search (rate_laws, rules)
 
 scale-requires : tie.Need-scale-requires
-scale-requires c κs = search (rateLaws, rules)
+scale-requires c κs = search (rate_laws, rules)
 
 returns : tie.Need-returns
-returns c = search (rateLaws, rules)
+returns c = search (rate_laws, rules)
 
 enum-known-speciation-2 : tie.Need-enum-known-speciation-2
-enum-known-speciation-2 c = search (rateLaws, rules)
+enum-known-speciation-2 c = search (rate_laws, rules)
 
 is-finite-requires : tie.Need-is-finite-requires
-is-finite-requires c κs = search (rateLaws, rules)
+is-finite-requires c κs = search (rate_laws, rules)
 
 is-scalable-requires : tie.Need-is-scalable-requires
-is-scalable-requires c κs = search (rateLaws, rules)
+is-scalable-requires c κs = search (rate_laws, rules)
 
 undrawn-requires : tie.Need-undrawn-requires
-undrawn-requires c κs = search (rateLaws, rules)
+undrawn-requires c κs = search (rate_laws, rules)
 
 returns-2 : tie.Need-returns-2
-returns-2 c = search (rateLaws, rules)
+returns-2 c = search (rate_laws, rules)
 
 refuse-speciation-requires : tie.Need-refuse-speciation-requires
-refuse-speciation-requires c κs = search (rateLaws, rules)
+refuse-speciation-requires c κs = search (rate_laws, rules)
 
 returns-3 : tie.Need-returns-3
-returns-3 c = search (rateLaws, rules)
+returns-3 c = search (rate_laws, rules)
 
 pub birth-rate-scale-spec : {M : Type 1} → statement M
 birth-rate-scale-spec =

@@ -1,6 +1,6 @@
 -- `slide::slide_down` meets its contract. Assumes nothing.
 use borrow.Author.Rules.{rules}
-use Rattle.calls.specs.HarmlessLaws.{mildLaws}
+use Rattle.calls.specs.HarmlessLaws.{mild_laws}
 use Rattle.slide.proofs.SlideLaws.{down-above, down-past, down-stays}
 use Rattle.slide.proofs.slide_down.Statement.{statement}
 use Rattle.slide.proofs.slide_down.Tie as tie
@@ -12,7 +12,7 @@ same_length : tie.Need-same-length
 same_length c = search rules
 
 returns : tie.Need-returns
-returns c = record { decided = λ v. search (down-above, rules); mild = search (mildLaws, rules) }
+returns c = record { decided = λ v. search (down-above, rules); mild = search (mild_laws, rules) }
 
 other-requires : tie.Need-other-requires
 other-requires c κs = search rules
@@ -33,7 +33,7 @@ same-length-4 : tie.Need-same-length-4
 same-length-4 c = search rules
 
 returns-2 : tie.Need-returns-2
-returns-2 c = record { decided = λ v. search (down-past, rules); mild = search (mildLaws, rules) }
+returns-2 c = record { decided = λ v. search (down-past, rules); mild = search (mild_laws, rules) }
 
 set-height-requires : tie.Need-set-height-requires
 set-height-requires c κs = search rules
@@ -57,7 +57,7 @@ returns-3 c =
       decided = λ v.
           down-stays _ _ _ _ _ _ v.goes _ height.height.ensures low.if1.false _ v.above _ other.other.ensures _ level.height2.ensures short.if2.false _
           set.set-height.ensures start.args.s;
-      mild = search (mildLaws, rules);
+      mild = search (mild_laws, rules);
     }
 
 pub slide-down-spec : {M : Type 1} → statement M

@@ -1,6 +1,6 @@
 -- `slide::slide_under` meets its contract. Assumes nothing.
 use borrow.Author.Rules.{rules}
-use Rattle.calls.specs.HarmlessLaws.{mildLaws}
+use Rattle.calls.specs.HarmlessLaws.{mild_laws}
 use Rattle.slide.proofs.SlideLaws.{under_none, under-spent, under_goes}
 use Rattle.slide.proofs.slide_under.Statement.{statement}
 use Rattle.slide.proofs.slide_under.Tie as tie
@@ -15,7 +15,7 @@ same-length-2 : tie.Need-same-length-2
 same-length-2 c = search rules
 
 returns : tie.Need-returns
-returns c = record { decided = λ v. search (under_none, rules); mild = search (mildLaws, rules) }
+returns c = record { decided = λ v. search (under_none, rules); mild = search (mild_laws, rules) }
 
 below-requires : tie.Need-below-requires
 below-requires c κs = search rules
@@ -47,7 +47,7 @@ returns-2 c =
       decided = λ v.
           under_goes _ _ _ _ _ _ _ v _ count.count.ensures _ some.if1.false _ below.below.ensures got.if2.true _ branch.branch.ensures _ _ _ _
           regraft.regraft.ensures;
-      mild = search (mildLaws, rules);
+      mild = search (mild_laws, rules);
     }
 
 same-length-6 : tie.Need-same-length-6
@@ -63,7 +63,7 @@ returns-3 c =
     let count = some.before in
     record {
       decided = λ v. under-spent _ _ _ _ _ _ _ v _ count.count.ensures _ some.if1.false _ below.below.ensures c.if2.false;
-      mild = search (mildLaws, rules);
+      mild = search (mild_laws, rules);
     }
 
 pub slide-under-spec : {M : Type 1} → statement M

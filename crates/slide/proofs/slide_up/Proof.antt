@@ -1,6 +1,6 @@
 -- `slide::slide_up` meets its contract. Assumes nothing.
 use borrow.Author.Rules.{rules}
-use Rattle.calls.specs.HarmlessLaws.{mildLaws}
+use Rattle.calls.specs.HarmlessLaws.{mild_laws}
 use Rattle.slide.proofs.SlideLaws.{up-stays, up-goes}
 use Rattle.slide.proofs.slide_up.Statement.{statement}
 use Rattle.slide.proofs.slide_up.Tie as tie
@@ -18,7 +18,7 @@ same-length-2 : tie.Need-same-length-2
 same-length-2 c = search rules
 
 returns : tie.Need-returns
-returns c = record { decided = λ v. search (up-stays, rules); mild = search (mildLaws, rules) }
+returns c = record { decided = λ v. search (up-stays, rules); mild = search (mild_laws, rules) }
 
 regraft-requires : tie.Need-regraft-requires
 regraft-requires c κs = search rules
@@ -36,7 +36,7 @@ same-length-5 : tie.Need-same-length-5
 same-length-5 c = search rules
 
 returns-2 : tie.Need-returns-2
-returns-2 c = record { decided = λ v. search (up-goes, rules); mild = search (mildLaws, rules) }
+returns-2 c = record { decided = λ v. search (up-goes, rules); mild = search (mild_laws, rules) }
 
 pub slide-up-spec : {M : Type 1} → statement M
 slide-up-spec =

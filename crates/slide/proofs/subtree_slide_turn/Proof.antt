@@ -1,6 +1,6 @@
 -- `slide::subtree_slide_turn` meets its contract. Assumes nothing.
 use borrow.Author.Rules.{rules}
-use Rattle.slide.proofs.SlideLaws.{turnLaws}
+use Rattle.slide.proofs.SlideLaws.{turn_laws}
 use Rattle.slide.proofs.subtree_slide_turn.Statement.{statement}
 use Rattle.slide.proofs.subtree_slide_turn.Tie as tie
 
@@ -26,7 +26,7 @@ same-length-3 : tie.Need-same-length-3
 same-length-3 c = search rules
 
 returns : tie.Need-returns
-returns c = search (turnLaws, rules)
+returns c = search (turn_laws, rules)
 
 slide-down-requires : tie.Need-slide-down-requires
 slide-down-requires c κs = search rules
@@ -41,7 +41,7 @@ same-length-6 : tie.Need-same-length-6
 same-length-6 c = search rules
 
 returns-2 : tie.Need-returns-2
-returns-2 c = search (turnLaws, rules)
+returns-2 c = search (turn_laws, rules)
 
 same-length-7 : tie.Need-same-length-7
 same-length-7 c = search rules
@@ -50,7 +50,7 @@ same-length-8 : tie.Need-same-length-8
 same-length-8 c = search rules
 
 returns-3 : tie.Need-returns-3
-returns-3 c = search (turnLaws, rules)
+returns-3 c = search (turn_laws, rules)
 
 pub subtree-slide-turn-spec : {M : Type 1} → statement M
 subtree-slide-turn-spec =

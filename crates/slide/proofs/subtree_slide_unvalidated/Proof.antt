@@ -1,6 +1,6 @@
 -- `slide::subtree_slide_unvalidated` meets its contract. Assumes nothing.
 use borrow.Author.Rules.{rules}
-use Rattle.slide.proofs.CallLaws.{callLaws}
+use Rattle.slide.proofs.CallLaws.{call_laws}
 use Rattle.slide.proofs.subtree_slide_unvalidated.Statement.{statement}
 use Rattle.slide.proofs.subtree_slide_unvalidated.Tie as tie
 
@@ -20,7 +20,7 @@ same_length : tie.Need-same-length
 same_length c = search rules
 
 returns : tie.Need-returns
-returns c = search (callLaws, rules)
+returns c = search (call_laws, rules)
 
 subtree-slide-turn-requires : tie.Need-subtree-slide-turn-requires
 subtree-slide-turn-requires c κs = search rules
@@ -38,7 +38,7 @@ same-length-4 : tie.Need-same-length-4
 same-length-4 c = search rules
 
 returns-2 : tie.Need-returns-2
-returns-2 c = search (callLaws, rules)
+returns-2 c = search (call_laws, rules)
 
 enum-known-why : tie.Need-enum-known-why
 enum-known-why c = search rules
@@ -50,7 +50,7 @@ same-length-5 : tie.Need-same-length-5
 same-length-5 c = search rules
 
 returns-3 : tie.Need-returns-3
-returns-3 c = search (callLaws, rules)
+returns-3 c = search (call_laws, rules)
 
 pub subtree-slide-unvalidated-spec : {M : Type 1} → statement M
 subtree-slide-unvalidated-spec =

@@ -6,7 +6,7 @@ use lib.ListN.{length}
 use Rattle.tree.specs.Given.{kin_in}
 use Rattle.speciation.specs.Yule.{total_to}
 use borrow.Author.Rules.{rules}
-use Rattle.speciation.proofs.YuleLaws.{totalLaws}
+use Rattle.speciation.proofs.YuleLaws.{total_laws}
 use Rattle.speciation.proofs.internal_total.Statement.{statement}
 use Rattle.speciation.proofs.internal_total.Tie as tie
 
@@ -17,28 +17,28 @@ abbrev decreases-loop : tie.decreases-loop
 decreases-loop heights sum₀ k₀ sum k = length heights - k
 
 add-k : tie.Need-overflow-add-k invariant-loop decreases-loop
-add-k c = search (totalLaws, rules)
+add-k c = search (total_laws, rules)
 
 loop-holds : tie.Need-loop-init invariant-loop decreases-loop
-loop-holds c = search (totalLaws, rules)
+loop-holds c = search (total_laws, rules)
 
 mul-sum : tie.Need-overflow-mul-sum invariant-loop decreases-loop
-mul-sum c = search (totalLaws, rules)
+mul-sum c = search (total_laws, rules)
 
 shared-slice-read-sum : tie.Need-shared-slice-read-sum invariant-loop decreases-loop
-shared-slice-read-sum c = search (totalLaws, rules)
+shared-slice-read-sum c = search (total_laws, rules)
 
 add-k-2 : tie.Need-overflow-add-k-2 invariant-loop decreases-loop
-add-k-2 c = search (totalLaws, rules)
+add-k-2 c = search (total_laws, rules)
 
 loop-less : tie.Need-loop-smaller invariant-loop decreases-loop
-loop-less c = search (totalLaws, rules)
+loop-less c = search (total_laws, rules)
 
 loop-again : tie.Need-loop-preserved invariant-loop decreases-loop
-loop-again c = search (totalLaws, rules)
+loop-again c = search (total_laws, rules)
 
 returns : tie.Need-returns invariant-loop decreases-loop
-returns c = search (totalLaws, rules)
+returns c = search (total_laws, rules)
 
 pub internal-total-spec : {M : Type 1} → statement M
 internal-total-spec =

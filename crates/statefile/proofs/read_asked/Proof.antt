@@ -1,5 +1,5 @@
 -- `statefile::read_asked` meets its contract. Assumes nothing.
-use Rattle.statefile.proofs.HeadLaws.{askedLaws}
+use Rattle.statefile.proofs.HeadLaws.{asked_laws}
 use borrow.Author.Rules.{rules}
 use Rattle.statefile.proofs.read_asked.Statement.{statement}
 use Rattle.statefile.proofs.read_asked.Tie as tie
@@ -14,7 +14,7 @@ enum_told : tie.Need-enum-told
 enum_told c = search rules
 
 returns : tie.Need-returns
-returns c = search (askedLaws, rules)
+returns c = search (asked_laws, rules)
 
 read-node-requires : tie.Need-read-node-requires
 read-node-requires c κs = search rules
@@ -26,7 +26,7 @@ enum-told-2 : tie.Need-enum-told-2
 enum-told-2 c = search rules
 
 returns-2 : tie.Need-returns-2
-returns-2 c = search (askedLaws, rules)
+returns-2 c = search (asked_laws, rules)
 
 read-tuning-requires : tie.Need-read-tuning-requires
 read-tuning-requires c κs = search rules
@@ -38,13 +38,13 @@ enum-told-3 : tie.Need-enum-told-3
 enum-told-3 c = search rules
 
 returns-3 : tie.Need-returns-3
-returns-3 c = search (askedLaws, rules)
+returns-3 c = search (asked_laws, rules)
 
 of-bits-requires : tie.Need-of-bits-requires
 of-bits-requires c κs = search rules
 
 returns-4 : tie.Need-returns-4
-returns-4 c = search (askedLaws, rules)
+returns-4 c = search (asked_laws, rules)
 
 pub read-asked-spec : {M : Type 1} → statement M
 read-asked-spec =

@@ -1,5 +1,5 @@
 -- `statefile::read_head` meets its contract. Assumes nothing.
-use Rattle.statefile.proofs.HeadLaws.{headLaws}
+use Rattle.statefile.proofs.HeadLaws.{head_laws}
 use borrow.Author.Rules.{rules}
 use Rattle.statefile.proofs.read_head.Statement.{statement}
 use Rattle.statefile.proofs.read_head.Tie as tie
@@ -26,25 +26,25 @@ enum_told : tie.Need-enum-told
 enum_told c = search rules
 
 returns : tie.Need-returns
-returns c = search (headLaws, rules)
+returns c = search (head_laws, rules)
 
 cast-tips : tie.Need-overflow-cast-tips
-cast-tips c = search (headLaws, rules)
+cast-tips c = search (head_laws, rules)
 
 returns-2 : tie.Need-returns-2
-returns-2 c = search (headLaws, rules)
+returns-2 c = search (head_laws, rules)
 
 enum-known-line : tie.Need-enum-known-line
 enum-known-line c = search rules
 
 returns-3 : tie.Need-returns-3
-returns-3 c = search (headLaws, rules)
+returns-3 c = search (head_laws, rules)
 
 enum-known-line-2 : tie.Need-enum-known-line-2
 enum-known-line-2 c = search rules
 
 returns-4 : tie.Need-returns-4
-returns-4 c = search (headLaws, rules)
+returns-4 c = search (head_laws, rules)
 
 pub read-head-spec : {M : Type 1} → statement M
 read-head-spec =

@@ -1,7 +1,7 @@
 -- `statefile::read_heights` meets its contract. Assumes nothing.
 use Prim.Native.Nat.{◌-◌}
 use Rattle.statefile.proofs.FillLaws.{HeightsFilling}
-use Rattle.statefile.proofs.FillLaws.{heightsLaws}
+use Rattle.statefile.proofs.FillLaws.{heights_laws}
 use borrow.Author.Rules.{rules}
 use Rattle.statefile.proofs.read_heights.Statement.{statement}
 use Rattle.statefile.proofs.read_heights.Tie as tie
@@ -13,7 +13,7 @@ abbrev decreases-loop : tie.decreases-loop
 decreases-loop s at line count out₀ values k₀ j₀ out k j = count - k
 
 loop-holds : tie.Need-loop-init invariant-loop decreases-loop
-loop-holds c = search (heightsLaws, rules)
+loop-holds c = search (heights_laws, rules)
 
 read-height-requires : tie.Need-read-height-requires invariant-loop decreases-loop
 read-height-requires c κs = search rules
@@ -31,10 +31,10 @@ add-k : tie.Need-overflow-add-k invariant-loop decreases-loop
 add-k c = search rules
 
 loop-less : tie.Need-loop-smaller invariant-loop decreases-loop
-loop-less c = search (heightsLaws, rules)
+loop-less c = search (heights_laws, rules)
 
 loop-again : tie.Need-loop-preserved invariant-loop decreases-loop
-loop-again c = search (heightsLaws, rules)
+loop-again c = search (heights_laws, rules)
 
 enum_told : tie.Need-enum-told invariant-loop decreases-loop
 enum_told c = search rules
@@ -46,13 +46,13 @@ same_length : tie.Need-same-length invariant-loop decreases-loop
 same_length c = search rules
 
 returns : tie.Need-returns invariant-loop decreases-loop
-returns c = search (heightsLaws, rules)
+returns c = search (heights_laws, rules)
 
 same-length-2 : tie.Need-same-length-2 invariant-loop decreases-loop
 same-length-2 c = search rules
 
 returns-2 : tie.Need-returns-2 invariant-loop decreases-loop
-returns-2 c = search (heightsLaws, rules)
+returns-2 c = search (heights_laws, rules)
 
 pub read-heights-spec : {M : Type 1} → statement M
 read-heights-spec =

@@ -1,5 +1,5 @@
 -- `statefile::read_nodes` meets its contract. Assumes nothing.
-use Rattle.statefile.proofs.FillLaws.{plantLaws}
+use Rattle.statefile.proofs.FillLaws.{plant_laws}
 use borrow.Author.Rules.{rules}
 use Rattle.statefile.proofs.read_nodes.Statement.{statement}
 use Rattle.statefile.proofs.read_nodes.Tie as tie
@@ -20,7 +20,7 @@ same_length : tie.Need-same-length
 same_length c = search rules
 
 returns : tie.Need-returns
-returns c = search (plantLaws, rules)
+returns c = search (plant_laws, rules)
 
 pub read-nodes-spec : {M : Type 1} → statement M
 read-nodes-spec =

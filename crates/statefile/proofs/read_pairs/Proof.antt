@@ -1,7 +1,7 @@
 -- `statefile::read_pairs` meets its contract. Assumes nothing.
 use Prim.Native.Nat.{◌-◌}
 use Rattle.statefile.proofs.FillLaws.{PairsFilling}
-use Rattle.statefile.proofs.FillLaws.{pairsLaws}
+use Rattle.statefile.proofs.FillLaws.{pairs_laws}
 use borrow.Author.Rules.{rules}
 use Rattle.statefile.proofs.read_pairs.Statement.{statement}
 use Rattle.statefile.proofs.read_pairs.Tie as tie
@@ -13,7 +13,7 @@ abbrev decreases-loop : tie.decreases-loop
 decreases-loop s at line count out₀ from k₀ j₀ out k j = count - k
 
 loop-holds : tie.Need-loop-init invariant-loop decreases-loop
-loop-holds c = search (pairsLaws, rules)
+loop-holds c = search (pairs_laws, rules)
 
 read-pair-requires : tie.Need-read-pair-requires invariant-loop decreases-loop
 read-pair-requires c κs = search rules
@@ -34,10 +34,10 @@ add-k : tie.Need-overflow-add-k invariant-loop decreases-loop
 add-k c = search rules
 
 loop-less : tie.Need-loop-smaller invariant-loop decreases-loop
-loop-less c = search (pairsLaws, rules)
+loop-less c = search (pairs_laws, rules)
 
 loop-again : tie.Need-loop-preserved invariant-loop decreases-loop
-loop-again c = search (pairsLaws, rules)
+loop-again c = search (pairs_laws, rules)
 
 enum_told : tie.Need-enum-told invariant-loop decreases-loop
 enum_told c = search rules
@@ -49,13 +49,13 @@ same_length : tie.Need-same-length invariant-loop decreases-loop
 same_length c = search rules
 
 returns : tie.Need-returns invariant-loop decreases-loop
-returns c = search (pairsLaws, rules)
+returns c = search (pairs_laws, rules)
 
 same-length-2 : tie.Need-same-length-2 invariant-loop decreases-loop
 same-length-2 c = search rules
 
 returns-2 : tie.Need-returns-2 invariant-loop decreases-loop
-returns-2 c = search (pairsLaws, rules)
+returns-2 c = search (pairs_laws, rules)
 
 pub read-pairs-spec : {M : Type 1} → statement M
 read-pairs-spec =

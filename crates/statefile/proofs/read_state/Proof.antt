@@ -1,5 +1,5 @@
 -- `statefile::read_state` meets its contract. Assumes nothing.
-use Rattle.statefile.proofs.FileLaws.{fileLaws}
+use Rattle.statefile.proofs.FileLaws.{file_laws}
 use borrow.Author.Rules.{rules}
 use Rattle.statefile.proofs.read_state.Statement.{statement}
 use Rattle.statefile.proofs.read_state.Tie as tie
@@ -26,7 +26,7 @@ same-length-2 : tie.Need-same-length-2
 same-length-2 c = search rules
 
 returns : tie.Need-returns
-returns c = search fileLaws
+returns c = search file_laws
 
 enum-known-line : tie.Need-enum-known-line
 enum-known-line c = search rules
@@ -38,13 +38,13 @@ same-length-4 : tie.Need-same-length-4
 same-length-4 c = search rules
 
 returns-2 : tie.Need-returns-2
-returns-2 c = search fileLaws
+returns-2 c = search file_laws
 
 enum-known-line-2 : tie.Need-enum-known-line-2
 enum-known-line-2 c = search rules
 
 returns-3 : tie.Need-returns-3
-returns-3 c = search fileLaws
+returns-3 c = search file_laws
 
 pub read-state-spec : {M : Type 1} → statement M
 read-state-spec =

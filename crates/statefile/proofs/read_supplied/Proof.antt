@@ -1,5 +1,5 @@
 -- `statefile::read_supplied` meets its contract. Assumes nothing.
-use Rattle.statefile.proofs.HeadLaws.{suppliedLaws}
+use Rattle.statefile.proofs.HeadLaws.{supplied_laws}
 use borrow.Author.Rules.{rules}
 use Rattle.statefile.proofs.read_supplied.Statement.{statement}
 use Rattle.statefile.proofs.read_supplied.Tie as tie
@@ -14,7 +14,7 @@ enum_told : tie.Need-enum-told
 enum_told c = search rules
 
 returns : tie.Need-returns
-returns c = search (suppliedLaws, rules)
+returns c = search (supplied_laws, rules)
 
 read-draws-requires : tie.Need-read-draws-requires
 read-draws-requires c κs = search rules
@@ -26,7 +26,7 @@ enum-told-2 : tie.Need-enum-told-2
 enum-told-2 c = search rules
 
 returns-2 : tie.Need-returns-2
-returns-2 c = search (suppliedLaws, rules)
+returns-2 c = search (supplied_laws, rules)
 
 read-generator-requires : tie.Need-read-generator-requires
 read-generator-requires c κs = search rules
@@ -38,13 +38,13 @@ enum-told-3 : tie.Need-enum-told-3
 enum-told-3 c = search rules
 
 returns-3 : tie.Need-returns-3
-returns-3 c = search (suppliedLaws, rules)
+returns-3 c = search (supplied_laws, rules)
 
 cast-draws : tie.Need-overflow-cast-draws
-cast-draws c = search (suppliedLaws, rules)
+cast-draws c = search (supplied_laws, rules)
 
 returns-4 : tie.Need-returns-4
-returns-4 c = search (suppliedLaws, rules)
+returns-4 c = search (supplied_laws, rules)
 
 pub read-supplied-spec : {M : Type 1} → statement M
 read-supplied-spec =

@@ -1,5 +1,5 @@
 -- `statefile::read_tree` meets its contract. Assumes nothing.
-use Rattle.statefile.proofs.FileLaws.{treeLaws}
+use Rattle.statefile.proofs.FileLaws.{tree_laws}
 use borrow.Author.Rules.{rules}
 use Rattle.statefile.proofs.read_tree.Statement.{statement}
 use Rattle.statefile.proofs.read_tree.Tie as tie
@@ -32,7 +32,7 @@ same-length-2 : tie.Need-same-length-2
 same-length-2 c = search rules
 
 returns : tie.Need-returns
-returns c = search treeLaws
+returns c = search tree_laws
 
 add-t20 : tie.Need-overflow-add-t20
 add-t20 c = search rules
@@ -44,7 +44,7 @@ same-length-4 : tie.Need-same-length-4
 same-length-4 c = search rules
 
 returns-2 : tie.Need-returns-2
-returns-2 c = search treeLaws
+returns-2 c = search tree_laws
 
 enum-known-k : tie.Need-enum-known-k
 enum-known-k c = search rules
@@ -56,7 +56,7 @@ same-length-6 : tie.Need-same-length-6
 same-length-6 c = search rules
 
 returns-3 : tie.Need-returns-3
-returns-3 c = search treeLaws
+returns-3 c = search tree_laws
 
 enum-known-k-2 : tie.Need-enum-known-k-2
 enum-known-k-2 c = search rules
@@ -65,7 +65,7 @@ same-length-7 : tie.Need-same-length-7
 same-length-7 c = search rules
 
 returns-4 : tie.Need-returns-4
-returns-4 c = search treeLaws
+returns-4 c = search tree_laws
 
 pub read-tree-spec : {M : Type 1} → statement M
 read-tree-spec =

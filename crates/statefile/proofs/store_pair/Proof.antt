@@ -1,5 +1,5 @@
 -- `statefile::store_pair` meets its contract. Assumes nothing.
-use Rattle.statefile.proofs.FillLaws.{storeLaws}
+use Rattle.statefile.proofs.FillLaws.{store_laws}
 use borrow.Author.Rules.{rules}
 use Rattle.statefile.proofs.store_pair.Statement.{statement}
 use Rattle.statefile.proofs.store_pair.Tie as tie
@@ -17,7 +17,7 @@ same_length : tie.Need-same-length
 same_length c = search rules
 
 returns : tie.Need-returns
-returns c = search (storeLaws, rules)
+returns c = search (store_laws, rules)
 
 pub store-pair-spec : {M : Type 1} → statement M
 store-pair-spec =

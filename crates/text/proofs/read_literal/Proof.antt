@@ -3,7 +3,7 @@ use mathlib.Core.Path.{◌≡◌}
 use Prim.Native.Nat.{◌-◌}
 use lib.ListN.{length, drop}
 use Rattle.text.specs.Rules.{literal}
-use Rattle.text.proofs.ReadLaws.{literalLaws}
+use Rattle.text.proofs.ReadLaws.{literal_laws}
 use borrow.Author.Rules.{rules}
 use Rattle.text.proofs.read_literal.Statement.{statement}
 use Rattle.text.proofs.read_literal.Tie as tie
@@ -15,10 +15,10 @@ abbrev decreases-loop : tie.decreases-loop
 decreases-loop s at key i₀ j₀ i j = length key - i
 
 loop-holds : tie.Need-loop-init invariant-loop decreases-loop
-loop-holds c = search (literalLaws, rules)
+loop-holds c = search (literal_laws, rules)
 
 returns : tie.Need-returns invariant-loop decreases-loop
-returns c = search (literalLaws, rules)
+returns c = search (literal_laws, rules)
 
 shared-slice-read-if2 : tie.Need-shared-slice-read-if2 invariant-loop decreases-loop
 shared-slice-read-if2 c = search rules
@@ -27,7 +27,7 @@ shared-slice-read-if2-2 : tie.Need-shared-slice-read-if2-2 invariant-loop decrea
 shared-slice-read-if2-2 c = search rules
 
 returns-2 : tie.Need-returns-2 invariant-loop decreases-loop
-returns-2 c = search (literalLaws, rules)
+returns-2 c = search (literal_laws, rules)
 
 add-i : tie.Need-overflow-add-i invariant-loop decreases-loop
 add-i c = search rules
@@ -39,10 +39,10 @@ loop-less : tie.Need-loop-smaller invariant-loop decreases-loop
 loop-less c = search rules
 
 loop-again : tie.Need-loop-preserved invariant-loop decreases-loop
-loop-again c = search (literalLaws, rules)
+loop-again c = search (literal_laws, rules)
 
 returns-3 : tie.Need-returns-3 invariant-loop decreases-loop
-returns-3 c = search (literalLaws, rules)
+returns-3 c = search (literal_laws, rules)
 
 pub read-literal-spec : {M : Type 1} → statement M
 read-literal-spec =

@@ -1,7 +1,7 @@
 -- `text::read_word` meets its contract. Assumes nothing.
 use Prim.Native.Nat.{◌-◌}
 use Rattle.text.proofs.ReadLaws.{Hexing}
-use Rattle.text.proofs.ReadLaws.{wordLaws}
+use Rattle.text.proofs.ReadLaws.{word_laws}
 use borrow.Author.Rules.{rules}
 use Rattle.text.proofs.read_word.Statement.{statement}
 use Rattle.text.proofs.read_word.Tie as tie
@@ -13,16 +13,16 @@ abbrev decreases-loop : tie.decreases-loop
 decreases-loop s at values n₀ k₀ n k = 16 - k
 
 returns : tie.Need-returns invariant-loop decreases-loop
-returns c = search (wordLaws, rules)
+returns c = search (word_laws, rules)
 
 sub-if2 : tie.Need-overflow-sub-if2 invariant-loop decreases-loop
 sub-if2 c = search rules
 
 returns-2 : tie.Need-returns-2 invariant-loop decreases-loop
-returns-2 c = search (wordLaws, rules)
+returns-2 c = search (word_laws, rules)
 
 loop-holds : tie.Need-loop-init invariant-loop decreases-loop
-loop-holds c = search (wordLaws, rules)
+loop-holds c = search (word_laws, rules)
 
 add-value : tie.Need-overflow-add-value invariant-loop decreases-loop
 add-value c = search rules
@@ -34,28 +34,28 @@ value-requires : tie.Need-value-requires invariant-loop decreases-loop
 value-requires c κs = search rules
 
 returns-3 : tie.Need-returns-3 invariant-loop decreases-loop
-returns-3 c = search (wordLaws, rules)
+returns-3 c = search (word_laws, rules)
 
 mul-n : tie.Need-overflow-mul-n invariant-loop decreases-loop
-mul-n c = search (wordLaws, rules)
+mul-n c = search (word_laws, rules)
 
 add-n : tie.Need-overflow-add-n invariant-loop decreases-loop
-add-n c = search (wordLaws, rules)
+add-n c = search (word_laws, rules)
 
 add-k : tie.Need-overflow-add-k invariant-loop decreases-loop
 add-k c = search rules
 
 loop-less : tie.Need-loop-smaller invariant-loop decreases-loop
-loop-less c = search (wordLaws, rules)
+loop-less c = search (word_laws, rules)
 
 loop-again : tie.Need-loop-preserved invariant-loop decreases-loop
-loop-again c = search (wordLaws, rules)
+loop-again c = search (word_laws, rules)
 
 add-t7 : tie.Need-overflow-add-t7 invariant-loop decreases-loop
 add-t7 c = search rules
 
 returns-4 : tie.Need-returns-4 invariant-loop decreases-loop
-returns-4 c = search (wordLaws, rules)
+returns-4 c = search (word_laws, rules)
 
 pub read-word-spec : {M : Type 1} → statement M
 read-word-spec =

@@ -1,5 +1,5 @@
 -- `tree::walk` meets its contract. Assumes nothing.
-use Rattle.tree.proofs.WalkLaws.{walkLaws}
+use Rattle.tree.proofs.WalkLaws.{walk_laws}
 use Rattle.tree.specs.PlaceLaws.{wide16}
 use borrow.Author.Rules.{rules}
 use Prim.Native.Nat.{ℕ, ◌<◌}
@@ -21,10 +21,10 @@ abbrev walk-below : ℕ → In 1 walk-kinds.ps
 walk-below t = and 1 walk-kinds.ps (falls 1 walk-kinds.ps ◌<◌ μ-walk t) walk.Pre
 
 walk-returns : (t : ℕ) → walk-lts.Need-returns (walk-below t, walk.Post) (walk_at t) walk.Post
-walk-returns t c = search (walkLaws, rules)
+walk-returns t c = search (walk_laws, rules)
 
 walk-returns-2 : (t : ℕ) → walk-lts.Need-returns-2 (walk-below t, walk.Post) (walk_at t) walk.Post
-walk-returns-2 t c = search (walkLaws, rules)
+walk-returns-2 t c = search (walk_laws, rules)
 
 walk-add-if3 : (t : ℕ) → walk-lts.Need-overflow-add-if3 (walk-below t, walk.Post) (walk_at t) walk.Post
 walk-add-if3 t c = search rules
@@ -67,7 +67,7 @@ walk-sub-walk-2 t c = search rules
 
 walk-walk-requires :
     (t : ℕ) → walk-lts.Need-walk-requires (walk-below t, walk.Post) (walk_at t) walk.Post
-walk-walk-requires t c κs = search (walkLaws, rules)
+walk-walk-requires t c κs = search (walk_laws, rules)
 
 walk-sub-walk-3 :
     (t : ℕ) → walk-lts.Need-overflow-sub-walk-3 (walk-below t, walk.Post) (walk_at t) walk.Post
@@ -75,17 +75,17 @@ walk-sub-walk-3 t c = search rules
 
 walk-walk-requires-2 :
     (t : ℕ) → walk-lts.Need-walk-requires-2 (walk-below t, walk.Post) (walk_at t) walk.Post
-walk-walk-requires-2 t c κs = search (walkLaws, rules)
+walk-walk-requires-2 t c κs = search (walk_laws, rules)
 
 walk-returns-3 : (t : ℕ) → walk-lts.Need-returns-3 (walk-below t, walk.Post) (walk_at t) walk.Post
-walk-returns-3 t c = search (walkLaws, rules)
+walk-returns-3 t c = search (walk_laws, rules)
 
 walk-sub-result :
     (t : ℕ) → walk-lts.Need-overflow-sub-result (walk-below t, walk.Post) (walk_at t) walk.Post
 walk-sub-result t c = search rules
 
 walk-returns-4 : (t : ℕ) → walk-lts.Need-returns-4 (walk-below t, walk.Post) (walk_at t) walk.Post
-walk-returns-4 t c = search (walkLaws, rules)
+walk-returns-4 t c = search (walk_laws, rules)
 
 pub +walk-spec : {M : Type 1} → statement M
 +walk-spec =

@@ -4,7 +4,7 @@ use mathlib.Core.Bool.{true}
 use Prim.Native.Nat.{◌-◌, ◌≤◌}
 use lib.ListN.{length}
 use Rattle.tree.specs.New.{agree}
-use Rattle.tree.proofs.SliceLaws.{agreeLaws}
+use Rattle.tree.proofs.SliceLaws.{agree_laws}
 use borrow.Author.Rules.{rules}
 use Rattle.tree.proofs.agree.Statement.{statement}
 use Rattle.tree.proofs.agree.Tie as tie
@@ -16,7 +16,7 @@ abbrev decreases-loop : tie.decreases-loop
 decreases-loop a b i₀ i = length a - i
 
 loop-holds : tie.Need-loop-init invariant-loop decreases-loop
-loop-holds c = search (agreeLaws, rules)
+loop-holds c = search (agree_laws, rules)
 
 mul-if1 : tie.Need-overflow-mul-if1 invariant-loop decreases-loop
 mul-if1 c = search rules
@@ -34,16 +34,16 @@ add-i : tie.Need-overflow-add-i invariant-loop decreases-loop
 add-i c = search rules
 
 loop-less : tie.Need-loop-smaller invariant-loop decreases-loop
-loop-less c = search (agreeLaws, rules)
+loop-less c = search (agree_laws, rules)
 
 loop-again : tie.Need-loop-preserved invariant-loop decreases-loop
-loop-again c = search (agreeLaws, rules)
+loop-again c = search (agree_laws, rules)
 
 returns : tie.Need-returns invariant-loop decreases-loop
-returns c = search (agreeLaws, rules)
+returns c = search (agree_laws, rules)
 
 returns-2 : tie.Need-returns-2 invariant-loop decreases-loop
-returns-2 c = search (agreeLaws, rules)
+returns-2 c = search (agree_laws, rules)
 
 pub agree-spec : {M : Type 1} → statement M
 agree-spec =

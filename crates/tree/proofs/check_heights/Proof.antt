@@ -6,7 +6,7 @@ use Rattle.answer.specs.declared.Refusal.TheVariants.{Height}
 use Rattle.tree.specs.declared.Verdict.TheVariants.{Fine}
 use Rattle.tree.specs.New.{misdated, lowest}
 use Rattle.tree.specs.Given.{dates_in}
-use Rattle.tree.specs.LowestLaws.{lowestLaws}
+use Rattle.tree.specs.LowestLaws.{lowest_laws}
 use borrow.Author.Rules.{rules}
 use Rattle.tree.proofs.check_heights.Statement.{statement}
 use Rattle.tree.proofs.check_heights.Tie as tie
@@ -18,25 +18,25 @@ abbrev decreases-loop : tie.decreases-loop
 decreases-loop parents heights root node₀ node = length heights - node
 
 loop-holds : tie.Need-loop-init invariant-loop decreases-loop
-loop-holds c = search (lowestLaws, rules)
+loop-holds c = search (lowest_laws, rules)
 
 misdated-requires : tie.Need-misdated-requires invariant-loop decreases-loop
-misdated-requires c κs = search (lowestLaws, rules)
+misdated-requires c κs = search (lowest_laws, rules)
 
 returns : tie.Need-returns invariant-loop decreases-loop
-returns c = search (lowestLaws, rules)
+returns c = search (lowest_laws, rules)
 
 add-node : tie.Need-overflow-add-node invariant-loop decreases-loop
 add-node c = search rules
 
 loop-less : tie.Need-loop-smaller invariant-loop decreases-loop
-loop-less c = search (lowestLaws, rules)
+loop-less c = search (lowest_laws, rules)
 
 loop-again : tie.Need-loop-preserved invariant-loop decreases-loop
-loop-again c = search (lowestLaws, rules)
+loop-again c = search (lowest_laws, rules)
 
 returns-2 : tie.Need-returns-2 invariant-loop decreases-loop
-returns-2 c = search (lowestLaws, rules)
+returns-2 c = search (lowest_laws, rules)
 
 pub check-heights-spec : {M : Type 1} → statement M
 check-heights-spec =

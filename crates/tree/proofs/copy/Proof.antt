@@ -3,7 +3,7 @@ use mathlib.Core.Path.{◌≡◌}
 use Prim.Native.Nat.{◌-◌, ◌≤◌}
 use lib.ListN.{length}
 use Rattle.tree.proofs.SliceLaws.{Copied}
-use Rattle.tree.proofs.SliceLaws.{copyLaws}
+use Rattle.tree.proofs.SliceLaws.{copy_laws}
 use borrow.Author.Rules.{rules}
 use Rattle.tree.proofs.copy.Statement.{statement}
 use Rattle.tree.proofs.copy.Tie as tie
@@ -15,7 +15,7 @@ abbrev decreases-loop : tie.decreases-loop
 decreases-loop from to₀ i₀ to i = length from - i
 
 loop-holds : tie.Need-loop-init invariant-loop decreases-loop
-loop-holds c = search (copyLaws, rules)
+loop-holds c = search (copy_laws, rules)
 
 mul-to : tie.Need-overflow-mul-to invariant-loop decreases-loop
 mul-to c = search rules
@@ -33,16 +33,16 @@ add-i : tie.Need-overflow-add-i invariant-loop decreases-loop
 add-i c = search rules
 
 loop-less : tie.Need-loop-smaller invariant-loop decreases-loop
-loop-less c = search (copyLaws, rules)
+loop-less c = search (copy_laws, rules)
 
 loop-again : tie.Need-loop-preserved invariant-loop decreases-loop
-loop-again c = search (copyLaws, rules)
+loop-again c = search (copy_laws, rules)
 
 same_length : tie.Need-same-length invariant-loop decreases-loop
 same_length c = search rules
 
 returns : tie.Need-returns invariant-loop decreases-loop
-returns c = search (copyLaws, rules)
+returns c = search (copy_laws, rules)
 
 pub copy_spec : {M : Type 1} → statement M
 copy_spec =

@@ -6,7 +6,7 @@ use native.Mathlib.Omega.{arith}
 use lib.ListN.{length}
 use Rattle.tree.specs.New.{roots}
 use Rattle.tree.proofs.RootLaws.{found_so_far, root-turn}
-use Rattle.tree.proofs.RootLaws.{rootLaws}
+use Rattle.tree.proofs.RootLaws.{root_laws}
 use borrow.Author.Rules.{rules}
 use Rattle.tree.proofs.root.Statement.{statement}
 use Rattle.tree.proofs.root.Tie as tie
@@ -18,7 +18,7 @@ abbrev decreases-loop : tie.decreases-loop
 decreases-loop parents root₀ node₀ root node = length parents - node
 
 loop-holds : tie.Need-loop-init invariant-loop decreases-loop
-loop-holds c = search (rootLaws, rules)
+loop-holds c = search (root_laws, rules)
 
 mul-if1 : tie.Need-overflow-mul-if1 invariant-loop decreases-loop
 mul-if1 c = search rules
@@ -27,13 +27,13 @@ shared-slice-read-if1 : tie.Need-shared-slice-read-if1 invariant-loop decreases-
 shared-slice-read-if1 c = search rules
 
 returns : tie.Need-returns invariant-loop decreases-loop
-returns c = search (rootLaws, rules)
+returns c = search (root_laws, rules)
 
 add-node : tie.Need-overflow-add-node invariant-loop decreases-loop
 add-node c = search rules
 
 loop-less : tie.Need-loop-smaller invariant-loop decreases-loop
-loop-less c = search (rootLaws, rules)
+loop-less c = search (root_laws, rules)
 
 loop-again : tie.Need-loop-preserved invariant-loop decreases-loop
 loop-again c =
@@ -44,10 +44,10 @@ loop-again c =
     )
 
 returns-2 : tie.Need-returns-2 invariant-loop decreases-loop
-returns-2 c = search (rootLaws, rules)
+returns-2 c = search (root_laws, rules)
 
 returns-3 : tie.Need-returns-3 invariant-loop decreases-loop
-returns-3 c = search (rootLaws, rules)
+returns-3 c = search (root_laws, rules)
 
 pub root-spec : {M : Type 1} → statement M
 root-spec =

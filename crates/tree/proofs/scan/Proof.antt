@@ -3,7 +3,7 @@ use mathlib.Core.Path.{◌≡◌}
 use Prim.Native.Nat.{◌-◌, ◌≤◌}
 use lib.ListN.{length}
 use Rattle.tree.specs.New.{filled, scan}
-use Rattle.tree.proofs.ParentLaws.{scanLaws}
+use Rattle.tree.proofs.ParentLaws.{scan_laws}
 use borrow.Author.Rules.{rules}
 use Rattle.tree.proofs.scan.Statement.{statement}
 use Rattle.tree.proofs.scan.Tie as tie
@@ -15,10 +15,10 @@ abbrev decreases-loop : tie.decreases-loop
 decreases-loop pairs parents₀ node₀ parents node = length parents₀ - node
 
 loop-holds : tie.Need-loop-init invariant-loop decreases-loop
-loop-holds c = search (scanLaws, rules)
+loop-holds c = search (scan_laws, rules)
 
 visit-requires : tie.Need-visit-requires invariant-loop decreases-loop
-visit-requires c κs = search (scanLaws, rules)
+visit-requires c κs = search (scan_laws, rules)
 
 enum_told : tie.Need-enum-told invariant-loop decreases-loop
 enum_told c = search rules
@@ -27,10 +27,10 @@ add-node : tie.Need-overflow-add-node invariant-loop decreases-loop
 add-node c = search rules
 
 loop-less : tie.Need-loop-smaller invariant-loop decreases-loop
-loop-less c = search (scanLaws, rules)
+loop-less c = search (scan_laws, rules)
 
 loop-again : tie.Need-loop-preserved invariant-loop decreases-loop
-loop-again c = search (scanLaws, rules)
+loop-again c = search (scan_laws, rules)
 
 enum-known-why : tie.Need-enum-known-why invariant-loop decreases-loop
 enum-known-why c = search rules
@@ -39,13 +39,13 @@ same_length : tie.Need-same-length invariant-loop decreases-loop
 same_length c = search rules
 
 returns : tie.Need-returns invariant-loop decreases-loop
-returns c = search (scanLaws, rules)
+returns c = search (scan_laws, rules)
 
 same-length-2 : tie.Need-same-length-2 invariant-loop decreases-loop
 same-length-2 c = search rules
 
 returns-2 : tie.Need-returns-2 invariant-loop decreases-loop
-returns-2 c = search (scanLaws, rules)
+returns-2 c = search (scan_laws, rules)
 
 pub scan-spec : {M : Type 1} → statement M
 scan-spec =

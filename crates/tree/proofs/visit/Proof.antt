@@ -1,6 +1,6 @@
 -- `tree::visit` meets its contract. Assumes nothing.
 use Rattle.tree.specs.PlaceLaws.{wide16}
-use Rattle.tree.proofs.ParentLaws.{visitLaws}
+use Rattle.tree.proofs.ParentLaws.{visit_laws}
 use borrow.Author.Rules.{rules}
 use Rattle.tree.proofs.visit.Statement.{statement}
 use Rattle.tree.proofs.visit.Tie as tie
@@ -36,22 +36,22 @@ add-if1 : tie.Need-overflow-add-if1
 add-if1 c = search rules
 
 returns : tie.Need-returns
-returns c = search (visitLaws, rules)
+returns c = search (visit_laws, rules)
 
 adopt-requires : tie.Need-adopt-requires
-adopt-requires c κs = search (visitLaws, rules)
+adopt-requires c κs = search (visit_laws, rules)
 
 enum_told : tie.Need-enum-told
 enum_told c = search rules
 
 adopt-requires-2 : tie.Need-adopt-requires-2
-adopt-requires-2 c κs = search (visitLaws, rules)
+adopt-requires-2 c κs = search (visit_laws, rules)
 
 same_length : tie.Need-same-length
 same_length c = search rules
 
 returns-2 : tie.Need-returns-2
-returns-2 c = search (visitLaws, rules)
+returns-2 c = search (visit_laws, rules)
 
 enum-known-why : tie.Need-enum-known-why
 enum-known-why c = search rules
@@ -60,16 +60,16 @@ same-length-2 : tie.Need-same-length-2
 same-length-2 c = search rules
 
 returns-3 : tie.Need-returns-3
-returns-3 c = search (visitLaws, rules)
+returns-3 c = search (visit_laws, rules)
 
 returns-4 : tie.Need-returns-4
-returns-4 c = search (visitLaws, rules)
+returns-4 c = search (visit_laws, rules)
 
 returns-5 : tie.Need-returns-5
-returns-5 c = search (visitLaws, rules)
+returns-5 c = search (visit_laws, rules)
 
 returns-6 : tie.Need-returns-6
-returns-6 c = search (visitLaws, rules)
+returns-6 c = search (visit_laws, rules)
 
 pub visit-spec : {M : Type 1} → statement M
 visit-spec =

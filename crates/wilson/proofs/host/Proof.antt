@@ -3,7 +3,7 @@ use mathlib.Core.Path.{◌≡◌}
 use Rattle.random.specs.Draw.{pick}
 use Rattle.tree.specs.Given.{dates_in}
 use borrow.Author.Rules.{rules}
-use Rattle.wilson.proofs.HostLaws.{hostLaws}
+use Rattle.wilson.proofs.HostLaws.{host_laws}
 use Rattle.wilson.proofs.host.Statement.{statement}
 use Rattle.wilson.proofs.host.Tie as tie
 use Rattle.moves.specs.Programs.{host}
@@ -16,25 +16,25 @@ abbrev decreases-loop : tie.decreases-loop
 decreases-loop s n parents heights root i supply₀ supply = supply.left
 
 loop-holds : tie.Need-loop-init invariant-loop decreases-loop
-loop-holds c = search (hostLaws, rules)
+loop-holds c = search (host_laws, rules)
 
 below-requires : tie.Need-below-requires invariant-loop decreases-loop
-below-requires c κs = search (hostLaws, rules)
+below-requires c κs = search (host_laws, rules)
 
 is-host-requires : tie.Need-is-host-requires invariant-loop decreases-loop
-is-host-requires c κs = search (hostLaws, rules)
+is-host-requires c κs = search (host_laws, rules)
 
 returns : tie.Need-returns invariant-loop decreases-loop
-returns c = search (hostLaws, rules)
+returns c = search (host_laws, rules)
 
 loop-less : tie.Need-loop-smaller invariant-loop decreases-loop
-loop-less c = search (hostLaws, rules)
+loop-less c = search (host_laws, rules)
 
 loop-again : tie.Need-loop-preserved invariant-loop decreases-loop
-loop-again c = search (hostLaws, rules)
+loop-again c = search (host_laws, rules)
 
 returns-2 : tie.Need-returns-2 invariant-loop decreases-loop
-returns-2 c = search (hostLaws, rules)
+returns-2 c = search (host_laws, rules)
 
 pub host-spec : {M : Type 1} → statement M
 host-spec =

@@ -1,6 +1,6 @@
 -- `wilson::wilson_balding` meets its contract. Assumes nothing.
 use borrow.Author.Rules.{rules}
-use Rattle.calls.specs.EntryLaws.{entryLaws}
+use Rattle.calls.specs.EntryLaws.{entry_laws}
 use Rattle.wilson.proofs.wilson_balding.Statement.{statement}
 use Rattle.wilson.proofs.wilson_balding.Tie as tie
 
@@ -23,7 +23,7 @@ same-length-3 : tie.Need-same-length-3
 same-length-3 c = search rules
 
 returns : tie.Need-returns
-returns c = search (entryLaws, rules)
+returns c = search (entry_laws, rules)
 
 enum_told : tie.Need-enum-told
 enum_told c = search rules
@@ -41,7 +41,7 @@ same-length-6 : tie.Need-same-length-6
 same-length-6 c = search rules
 
 returns-2 : tie.Need-returns-2
-returns-2 c = search (entryLaws, rules)
+returns-2 c = search (entry_laws, rules)
 
 pub wilson-balding-spec : {M : Type 1} → statement M
 wilson-balding-spec =

@@ -1,7 +1,7 @@
 -- `wilson::wilson_balding_turn` meets its contract. Assumes nothing.
 use borrow.Author.Rules.{rules}
-use Rattle.calls.specs.HarmlessLaws.{mildLaws}
-use Rattle.wilson.proofs.TurnLaws.{turn-spent-later, turnLaws}
+use Rattle.calls.specs.HarmlessLaws.{mild_laws}
+use Rattle.wilson.proofs.TurnLaws.{turn-spent-later, turn_laws}
 use Rattle.wilson.proofs.wilson_balding_turn.Statement.{statement}
 use Rattle.wilson.proofs.wilson_balding_turn.Tie as tie
 
@@ -24,7 +24,7 @@ same-length-3 : tie.Need-same-length-3
 same-length-3 c = search rules
 
 returns : tie.Need-returns
-returns c = record { decided = λ v. search (turnLaws, rules); mild = search (mildLaws, rules) }
+returns c = record { decided = λ v. search (turn_laws, rules); mild = search (mild_laws, rules) }
 
 same-length-4 : tie.Need-same-length-4
 same-length-4 c = search rules
@@ -39,11 +39,11 @@ returns-2 c =
     let a = y.before.before.non-root in
     record {
       decided = λ v. turn-spent-later _ _ _ _ _ a.result a.ensures y.if1.true b.result b.ensures c.if2.false;
-      mild = search (mildLaws, rules);
+      mild = search (mild_laws, rules);
     }
 
 returns-3 : tie.Need-returns-3
-returns-3 c = record { decided = λ v. search (turnLaws, rules); mild = search (mildLaws, rules) }
+returns-3 c = record { decided = λ v. search (turn_laws, rules); mild = search (mild_laws, rules) }
 
 pub wilson-balding-turn-spec : {M : Type 1} → statement M
 wilson-balding-turn-spec =

@@ -1,6 +1,6 @@
 -- `wilson::wilson_balding_unvalidated` meets its contract. Assumes nothing.
 use borrow.Author.Rules.{rules}
-use Rattle.calls.specs.EntryLaws.{unvalidatedLaws}
+use Rattle.calls.specs.EntryLaws.{unvalidated_laws}
 use Rattle.wilson.proofs.wilson_balding_unvalidated.Statement.{statement}
 use Rattle.wilson.proofs.wilson_balding_unvalidated.Tie as tie
 
@@ -14,7 +14,7 @@ refuse-requires : tie.Need-refuse-requires
 refuse-requires c κs = search rules
 
 returns : tie.Need-returns
-returns c = search (unvalidatedLaws, rules)
+returns c = search (unvalidated_laws, rules)
 
 enum_told : tie.Need-enum-told
 enum_told c = search rules
@@ -35,7 +35,7 @@ same-length-3 : tie.Need-same-length-3
 same-length-3 c = search rules
 
 returns-2 : tie.Need-returns-2
-returns-2 c = search (unvalidatedLaws, rules)
+returns-2 c = search (unvalidated_laws, rules)
 
 pub wilson-balding-unvalidated-spec : {M : Type 1} → statement M
 wilson-balding-unvalidated-spec =

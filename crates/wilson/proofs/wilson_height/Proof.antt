@@ -1,7 +1,7 @@
 -- `wilson::wilson_height` meets its contract. Assumes nothing.
 use borrow.Author.Rules.{rules}
-use Rattle.calls.specs.HarmlessLaws.{mildLaws}
-use Rattle.wilson.proofs.OntoLaws.{heightLaws}
+use Rattle.calls.specs.HarmlessLaws.{mild_laws}
+use Rattle.wilson.proofs.OntoLaws.{height_laws}
 use Rattle.wilson.proofs.wilson_height.Statement.{statement}
 use Rattle.wilson.proofs.wilson_height.Tie as tie
 
@@ -27,7 +27,7 @@ same-length-3 : tie.Need-same-length-3
 same-length-3 c = search rules
 
 returns : tie.Need-returns
-returns c = record { decided = λ v. search (heightLaws, rules); mild = search (mildLaws, rules) }
+returns c = record { decided = λ v. search (height_laws, rules); mild = search (mild_laws, rules) }
 
 enum_told : tie.Need-enum-told
 enum_told c = search rules
@@ -42,10 +42,10 @@ same-length-5 : tie.Need-same-length-5
 same-length-5 c = search rules
 
 returns-2 : tie.Need-returns-2
-returns-2 c = record { decided = λ v. search (heightLaws, rules); mild = search (mildLaws, rules) }
+returns-2 c = record { decided = λ v. search (height_laws, rules); mild = search (mild_laws, rules) }
 
 returns-3 : tie.Need-returns-3
-returns-3 c = record { decided = λ v. search (heightLaws, rules); mild = search (mildLaws, rules) }
+returns-3 c = record { decided = λ v. search (height_laws, rules); mild = search (mild_laws, rules) }
 
 pub wilson-height-spec : {M : Type 1} → statement M
 wilson-height-spec =

@@ -1,7 +1,7 @@
 -- `wilson::wilson_onto` meets its contract. Assumes nothing.
 use borrow.Author.Rules.{rules}
-use Rattle.calls.specs.HarmlessLaws.{mildLaws}
-use Rattle.wilson.proofs.OntoLaws.{ontoLaws}
+use Rattle.calls.specs.HarmlessLaws.{mild_laws}
+use Rattle.wilson.proofs.OntoLaws.{onto_laws}
 use Rattle.wilson.proofs.wilson_onto.Statement.{statement}
 use Rattle.wilson.proofs.wilson_onto.Tie as tie
 
@@ -18,7 +18,7 @@ same-length-3 : tie.Need-same-length-3
 same-length-3 c = search rules
 
 returns : tie.Need-returns
-returns c = record { decided = λ v. search (ontoLaws, rules); mild = search (mildLaws, rules) }
+returns c = record { decided = λ v. search (onto_laws, rules); mild = search (mild_laws, rules) }
 
 wilson-height-requires : tie.Need-wilson-height-requires
 wilson-height-requires c κs = search rules
@@ -33,7 +33,7 @@ same-length-6 : tie.Need-same-length-6
 same-length-6 c = search rules
 
 returns-2 : tie.Need-returns-2
-returns-2 c = record { decided = λ v. search (ontoLaws, rules); mild = search (mildLaws, rules) }
+returns-2 c = record { decided = λ v. search (onto_laws, rules); mild = search (mild_laws, rules) }
 
 pub wilson-onto-spec : {M : Type 1} → statement M
 wilson-onto-spec =

@@ -1,173 +1,173 @@
 -- `process::ProcessPriors::estimates` meets its contract. Assumes nothing.
 use borrow.Author.Rules.{rules}
-use Rattle.process.proofs.PriorLaws.{estimatesLaws}
+use Rattle.process.proofs.PriorLaws.{estimates_laws}
 use Rattle.process.proofs.ProcessPriors.estimates.Statement.{statement}
 use Rattle.process.proofs.ProcessPriors.estimates.Tie as tie
 
 enum_told : tie.Need-enum-told
-enum_told c = search (estimatesLaws, rules)
+enum_told c = search (estimates_laws, rules)
 
 is-given-requires : tie.Need-is-given-requires
-is-given-requires c κs = search (estimatesLaws, rules)
+is-given-requires c κs = search (estimates_laws, rules)
 
 enum-told-2 : tie.Need-enum-told-2
-enum-told-2 c = search (estimatesLaws, rules)
+enum-told-2 c = search (estimates_laws, rules)
 
 is-given-requires-2 : tie.Need-is-given-requires-2
-is-given-requires-2 c κs = search (estimatesLaws, rules)
+is-given-requires-2 c κs = search (estimates_laws, rules)
 
 enum-told-3 : tie.Need-enum-told-3
-enum-told-3 c = search (estimatesLaws, rules)
+enum-told-3 c = search (estimates_laws, rules)
 
 is-given-requires-3 : tie.Need-is-given-requires-3
-is-given-requires-3 c κs = search (estimatesLaws, rules)
+is-given-requires-3 c κs = search (estimates_laws, rules)
 
 enum-told-4 : tie.Need-enum-told-4
-enum-told-4 c = search (estimatesLaws, rules)
+enum-told-4 c = search (estimates_laws, rules)
 
 are-given-requires : tie.Need-are-given-requires
-are-given-requires c κs = search (estimatesLaws, rules)
+are-given-requires c κs = search (estimates_laws, rules)
 
 enum-told-5 : tie.Need-enum-told-5
-enum-told-5 c = search (estimatesLaws, rules)
+enum-told-5 c = search (estimates_laws, rules)
 
 is-given-requires-4 : tie.Need-is-given-requires-4
-is-given-requires-4 c κs = search (estimatesLaws, rules)
+is-given-requires-4 c κs = search (estimates_laws, rules)
 
 enum-told-6 : tie.Need-enum-told-6
-enum-told-6 c = search (estimatesLaws, rules)
+enum-told-6 c = search (estimates_laws, rules)
 
 enum-told-7 : tie.Need-enum-told-7
-enum-told-7 c = search (estimatesLaws, rules)
+enum-told-7 c = search (estimates_laws, rules)
 
 enum-told-8 : tie.Need-enum-told-8
-enum-told-8 c = search (estimatesLaws, rules)
+enum-told-8 c = search (estimates_laws, rules)
 
 enum-told-9 : tie.Need-enum-told-9
-enum-told-9 c = search (estimatesLaws, rules)
+enum-told-9 c = search (estimates_laws, rules)
 
 enum-told-10 : tie.Need-enum-told-10
-enum-told-10 c = search (estimatesLaws, rules)
+enum-told-10 c = search (estimates_laws, rules)
 
 enum-told-11 : tie.Need-enum-told-11
-enum-told-11 c = search (estimatesLaws, rules)
+enum-told-11 c = search (estimates_laws, rules)
 
 enum-told-12 : tie.Need-enum-told-12
-enum-told-12 c = search (estimatesLaws, rules)
+enum-told-12 c = search (estimates_laws, rules)
 
 enum-told-13 : tie.Need-enum-told-13
-enum-told-13 c = search (estimatesLaws, rules)
+enum-told-13 c = search (estimates_laws, rules)
 
 enum-told-14 : tie.Need-enum-told-14
-enum-told-14 c = search (estimatesLaws, rules)
+enum-told-14 c = search (estimates_laws, rules)
 
 enum-told-15 : tie.Need-enum-told-15
-enum-told-15 c = search (estimatesLaws, rules)
+enum-told-15 c = search (estimates_laws, rules)
 
 enum-told-16 : tie.Need-enum-told-16
-enum-told-16 c = search (estimatesLaws, rules)
+enum-told-16 c = search (estimates_laws, rules)
 
 enum-told-17 : tie.Need-enum-told-17
-enum-told-17 c = search (estimatesLaws, rules)
+enum-told-17 c = search (estimates_laws, rules)
 
 enum-told-18 : tie.Need-enum-told-18
-enum-told-18 c = search (estimatesLaws, rules)
+enum-told-18 c = search (estimates_laws, rules)
 
 enum-told-19 : tie.Need-enum-told-19
-enum-told-19 c = search (estimatesLaws, rules)
+enum-told-19 c = search (estimates_laws, rules)
 
 enum-told-20 : tie.Need-enum-told-20
-enum-told-20 c = search (estimatesLaws, rules)
+enum-told-20 c = search (estimates_laws, rules)
 
 enum-told-21 : tie.Need-enum-told-21
-enum-told-21 c = search (estimatesLaws, rules)
+enum-told-21 c = search (estimates_laws, rules)
 
 enum-told-22 : tie.Need-enum-told-22
-enum-told-22 c = search (estimatesLaws, rules)
+enum-told-22 c = search (estimates_laws, rules)
 
 enum-told-23 : tie.Need-enum-told-23
-enum-told-23 c = search (estimatesLaws, rules)
+enum-told-23 c = search (estimates_laws, rules)
 
 enum-told-24 : tie.Need-enum-told-24
-enum-told-24 c = search (estimatesLaws, rules)
+enum-told-24 c = search (estimates_laws, rules)
 
 enum-told-25 : tie.Need-enum-told-25
-enum-told-25 c = search (estimatesLaws, rules)
+enum-told-25 c = search (estimates_laws, rules)
 
 returns : tie.Need-returns
-returns c = search (estimatesLaws, rules)
+returns c = search (estimates_laws, rules)
 
 returns-2 : tie.Need-returns-2
-returns-2 c = search (estimatesLaws, rules)
+returns-2 c = search (estimates_laws, rules)
 
 returns-3 : tie.Need-returns-3
-returns-3 c = search (estimatesLaws, rules)
+returns-3 c = search (estimates_laws, rules)
 
 returns-4 : tie.Need-returns-4
-returns-4 c = search (estimatesLaws, rules)
+returns-4 c = search (estimates_laws, rules)
 
 returns-5 : tie.Need-returns-5
-returns-5 c = search (estimatesLaws, rules)
+returns-5 c = search (estimates_laws, rules)
 
 returns-6 : tie.Need-returns-6
-returns-6 c = search (estimatesLaws, rules)
+returns-6 c = search (estimates_laws, rules)
 
 returns-7 : tie.Need-returns-7
-returns-7 c = search (estimatesLaws, rules)
+returns-7 c = search (estimates_laws, rules)
 
 returns-8 : tie.Need-returns-8
-returns-8 c = search (estimatesLaws, rules)
+returns-8 c = search (estimates_laws, rules)
 
 returns-9 : tie.Need-returns-9
-returns-9 c = search (estimatesLaws, rules)
+returns-9 c = search (estimates_laws, rules)
 
 returns-10 : tie.Need-returns-10
-returns-10 c = search (estimatesLaws, rules)
+returns-10 c = search (estimates_laws, rules)
 
 returns-11 : tie.Need-returns-11
-returns-11 c = search (estimatesLaws, rules)
+returns-11 c = search (estimates_laws, rules)
 
 returns-12 : tie.Need-returns-12
-returns-12 c = search (estimatesLaws, rules)
+returns-12 c = search (estimates_laws, rules)
 
 returns-13 : tie.Need-returns-13
-returns-13 c = search (estimatesLaws, rules)
+returns-13 c = search (estimates_laws, rules)
 
 returns-14 : tie.Need-returns-14
-returns-14 c = search (estimatesLaws, rules)
+returns-14 c = search (estimates_laws, rules)
 
 returns-15 : tie.Need-returns-15
-returns-15 c = search (estimatesLaws, rules)
+returns-15 c = search (estimates_laws, rules)
 
 returns-16 : tie.Need-returns-16
-returns-16 c = search (estimatesLaws, rules)
+returns-16 c = search (estimates_laws, rules)
 
 returns-17 : tie.Need-returns-17
-returns-17 c = search (estimatesLaws, rules)
+returns-17 c = search (estimates_laws, rules)
 
 returns-18 : tie.Need-returns-18
-returns-18 c = search (estimatesLaws, rules)
+returns-18 c = search (estimates_laws, rules)
 
 returns-19 : tie.Need-returns-19
-returns-19 c = search (estimatesLaws, rules)
+returns-19 c = search (estimates_laws, rules)
 
 returns-20 : tie.Need-returns-20
-returns-20 c = search (estimatesLaws, rules)
+returns-20 c = search (estimates_laws, rules)
 
 returns-21 : tie.Need-returns-21
-returns-21 c = search (estimatesLaws, rules)
+returns-21 c = search (estimates_laws, rules)
 
 returns-22 : tie.Need-returns-22
-returns-22 c = search (estimatesLaws, rules)
+returns-22 c = search (estimates_laws, rules)
 
 returns-23 : tie.Need-returns-23
-returns-23 c = search (estimatesLaws, rules)
+returns-23 c = search (estimates_laws, rules)
 
 returns-24 : tie.Need-returns-24
-returns-24 c = search (estimatesLaws, rules)
+returns-24 c = search (estimates_laws, rules)
 
 returns-25 : tie.Need-returns-25
-returns-25 c = search (estimatesLaws, rules)
+returns-25 c = search (estimates_laws, rules)
 
 pub estimates-spec : {M : Type 1} → statement M
 estimates-spec =

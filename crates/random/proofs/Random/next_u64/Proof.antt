@@ -1,5 +1,5 @@
 -- `random::Random::next_u64` meets its contract. Assumes nothing.
-use Rattle.random.proofs.StepLaws.{stepLaws}
+use Rattle.random.proofs.StepLaws.{step_laws}
 use Rattle.std.proofs.Common.{rules}
 use Rattle.random.proofs.Random.next_u64.Statement.{statement}
 use Rattle.random.proofs.Random.next_u64.Tie as tie
@@ -29,7 +29,7 @@ rotate-left-requires-2 : tie.Need-rotate-left-requires-2
 rotate-left-requires-2 c κs = search rules
 
 returns : tie.Need-returns
-returns c = search (stepLaws, rules)
+returns c = search (step_laws, rules)
 
 pub next-u64-spec : {M : Type 1} → statement M
 next-u64-spec =
