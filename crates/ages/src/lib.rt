@@ -1,5 +1,7 @@
 // The age table of rove's dating.rs: the least and the greatest age of each tip, lent as two slices, and the rules that `Dating::validate` has for its tips. The two
 // ends of a tip are one record where they are handed on. Assumes nothing.
+#![tactic(auto)]
+
 ghost use Rattle.std.specs.Prelude.{◌≡◌, ◌&&◌, ◌<◌, eqb, length};
 ghost use Rattle.tree.specs.Tree.{tips_of};
 ghost use Rattle.tree.specs.New.{counts};

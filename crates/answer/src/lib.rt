@@ -1,5 +1,7 @@
 // What a call answers: moved or scaled with its ratio, declined, or refused. specs/Answers.antt gives the number and the values that document 01
 // has for each case. Assumes nothing.
+#![tactic(auto)]
+
 ghost use Rattle.std.specs.Prelude.{◌≡◌};
 ghost use Rattle.answer.specs.Answers.{number_of, detail_of};
 

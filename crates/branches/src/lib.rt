@@ -1,6 +1,8 @@
 // The branches that SubtreeSlide looks for: `crossing`, `nth_crossing` and the climb of rove's mcmc/moves.rs over lent slices. Nothing is asked of
 // the slices: each index is tested where it is followed, and every walk has a budget. What is said of branches is said where the nodes are of 16
 // bits. Assumes nothing.
+#![tactic(auto)]
+
 ghost use Rattle.std.specs.Prelude.{◌≡◌, ◌<◌, ◌≤◌};
 ghost use Rattle.tree.specs.Tree.{nodes_of};
 ghost use Rattle.tree.specs.Given.{kin_in, dates_in};

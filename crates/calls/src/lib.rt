@@ -2,6 +2,8 @@
 // make. A move is a turn: a function that takes a tree and a supply, and ends as moved, as declined, or in what refuses the call. Each move has
 // two entry points: one validates its tree, the other, unvalidated, leaves that to a host whose tree was accepted and has only been changed by
 // these calls; neither asks anything. Assumes nothing.
+#![tactic(auto)]
+
 ghost use Rattle.std.specs.Prelude.{◌≡◌, ◌-◌};
 ghost use Rattle.random.specs.Draw.{pick, drawn_number};
 ghost use Rattle.rules.specs.Rules.{one_internal, within};

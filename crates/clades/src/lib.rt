@@ -1,5 +1,7 @@
 // Sets of tips, one mark per tip: `is_monophyletic_in` of rove's tree.rs, and the age of a clade. Each tip has a weight, 1 in the set and
 // another outside it, and the first node in postorder whose tips weigh as much as the set is looked for. Assumes nothing.
+#![tactic(auto)]
+
 ghost use Rattle.std.specs.Prelude.{◌≡◌, cond, ◌≤◌, ◌<◌, eqb, length, get_or};
 ghost use Rattle.tree.specs.Tree.{nodes_of};
 ghost use Rattle.tree.specs.Given.{tree_of};

@@ -1,5 +1,7 @@
 // The scales of a relaxed clock, of mcmc/moves.rs: ClockSigmaScale and BranchRateScale. A clock is lent as its rates, with sigma beside it, which is missing
 // where there is no clock. No public function has a `requires`. Assumes nothing.
+#![tactic(auto)]
+
 ghost use Rattle.std.specs.Prelude.{◌≡◌, ◌&&◌, ◌<◌, length, set};
 ghost use Rattle.answer.specs.declared.Proposal.TheVariants as Proposals;
 ghost use Rattle.calls.specs.Change.{proposed, value_call};

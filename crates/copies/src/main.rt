@@ -1,5 +1,7 @@
 // Reads Newick texts on standard input, one to a line, and prints what the reader answers of each: the number of nodes, with the pairs of the internal nodes and
 // the ages of a small tree, or with the root's age of a larger one; or the refusal. Assumes nothing beyond io.
+#![tactic(auto)]
+
 use libc::STDIN_FILENO;
 use newick::Taken;
 

@@ -1,5 +1,7 @@
 // The museum's program: reads a state file on standard input and prints its tree as Newick text, without a line end, or the refusal in the listing's form.
 // Assumes nothing beyond io.
+#![tactic(auto)]
+
 use libc::{STDIN_FILENO, STDOUT_FILENO};
 
 // The longest file that is looked at, in bytes: that of the largest tree is shorter.

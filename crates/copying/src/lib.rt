@@ -1,5 +1,7 @@
 // The Newick copy of a state file's tree: the tree is read into local arrays and accepted there, and its text, or that of the refusal, is put into a lent
 // slice. Nothing else is written. `copy` has no `requires`. Assumes nothing.
+#![tactic(auto)]
+
 ghost use Rattle.std.specs.Prelude.{◌≡◌, length};
 ghost use Rattle.tree.specs.Given.{tree_of};
 ghost use Rattle.tree.specs.Tree.{nodes_of};

@@ -1,4 +1,6 @@
 // Tip dating, of rove's dating.rs: `initialize` and `propose_age`, on a tree with a table of ages. Assumes nothing.
+#![tactic(auto)]
+
 ghost use Rattle.std.specs.Prelude.{◌≡◌, List, [], ◌&&◌, ℕ, ◌<◌, length, get_or};
 ghost use Rattle.std.specs.Float.{nan};
 ghost use Rattle.random.specs.Draw.{run, allowed};

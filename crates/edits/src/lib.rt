@@ -3,6 +3,8 @@
 // the slot just past the pairs is the register. A function that may change the root is given it and answers the root afterwards.
 // Each takes any slices and tests every index that it follows; one that is out of range is neither read nor written. What is promised is
 // promised of slices that give what Needs says, as those of a valid tree do (NeedsLaws). None is offered to hosts. Assumes nothing.
+#![tactic(auto)]
+
 ghost use Rattle.std.specs.Prelude.{◌≡◌, ◌%◌, set};
 ghost use Rattle.tree.specs.Tree.{nodes_of};
 ghost use Rattle.edits.specs.Slots.{slot_of, put, swap, rotate, bare};

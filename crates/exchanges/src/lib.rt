@@ -1,6 +1,8 @@
 // WideExchange and NarrowExchange: two nodes of a lent tree change places, the port of the functions of the same names of rove's moves.rs. Each has
 // the call of its name, which refuses what is not in order, and an unvalidated one, which leaves the tree unchecked; both take whatever is lent. The
 // unvalidated one leaves of an accepted tree what the checked one leaves, and of any slices what is `Harmless` of calls. Assumes nothing.
+#![tactic(auto)]
+
 ghost use Rattle.std.specs.Prelude.{◌≡◌};
 ghost use Rattle.random.specs.Draw.{pick, run, drawn_number};
 ghost use Rattle.tree.specs.Tree.{nodes_of};

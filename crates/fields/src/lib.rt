@@ -1,5 +1,7 @@
 // The plain scales of a fossilized birth–death process, of dating/process.rs: birth, death, fossil sampling and origin. No public function has a `requires`.
 // Assumes nothing.
+#![tactic(auto)]
+
 ghost use Rattle.std.specs.Prelude.{◌≡◌};
 ghost use Rattle.calls.specs.Change.{proposed, value_call};
 ghost use Rattle.fields.specs.Fields.{above, field, move_of, value_of, put, shift_of, fbd_limits, fbd_call};

@@ -1,5 +1,7 @@
 // Readers of the lines of the state file, each over a place of the file; specs/Forms.antt says what the lines are. A reader of words is lent the
 // table of digits. Assumes nothing.
+#![tactic(auto)]
+
 ghost use Rattle.std.specs.Prelude.{◌≡◌, drop};
 ghost use Rattle.text.specs.Text.{line_end};
 ghost use Rattle.text.specs.Rules.{onward, literal, fixed, word, decimal};

@@ -1,6 +1,8 @@
 // Runs the calls of tip dating: the scales of a fossilized birth–death process, its priors, tables of ages, `initialize` and `propose_age`. A line
 // has the call with what it is given and the answer, then what the call may change and the generator's words after it; floats are given by their
 // bits, and a dash is a value that is missing. Assumes nothing.
+#![tactic(auto)]
+
 use fields::Field;
 use kinds::Move;
 use lines::{

@@ -1,5 +1,7 @@
 // A node's parent goes onto another branch: what SubtreeSlide and WilsonBalding of rove's mcmc/moves.rs write. It takes any slices; what is
 // promised is promised of a valid tree and its nodes. It is not offered to hosts. Assumes nothing.
+#![tactic(auto)]
+
 ghost use Rattle.std.specs.Prelude.{◌≡◌};
 ghost use Rattle.tree.specs.Tree.{nodes_of};
 ghost use Rattle.tree.specs.Given.{tree_of};

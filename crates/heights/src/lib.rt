@@ -1,5 +1,7 @@
 // NodeHeight, RootScale and TreeScale of mcmc/moves.rs: the moves that change heights and nothing else of a tree. Each has the call of its name,
 // which refuses what is not in order, and an unvalidated one, which leaves the tree unchecked; both take whatever is lent. Assumes nothing.
+#![tactic(auto)]
+
 ghost use Rattle.std.specs.Prelude.{◌≡◌, ◌≤◌, length, T};
 ghost use Rattle.random.specs.Draw.{pick, run, drawn_number};
 ghost use Rattle.tree.specs.Tree.{nodes_of};

@@ -1,4 +1,6 @@
 // The moves by name, as mcmc/moves.rs has them, with the tables of what each starts with and changes. Assumes nothing.
+#![tactic(auto)]
+
 ghost use Rattle.std.specs.Prelude.{◌≡◌};
 ghost use Rattle.kinds.specs.Table.{row_of};
 

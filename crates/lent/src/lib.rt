@@ -1,6 +1,8 @@
 // The generator lent: a caller lends it by `&mut` and finds it advanced, as with rove's methods of the same names. Each function copies the
 // generator out, makes the draw of crate `random` on the copy, and leaves the generator that the draw hands back. No function has a `requires`.
 // Assumes nothing.
+#![tactic(auto)]
+
 ghost use Rattle.std.specs.Prelude.{◌≡◌};
 ghost use Rattle.random.specs.Generator.{drawn_word, drawn_uniform, drawn_coin};
 ghost use Rattle.random.specs.BelowCall.{below_call};

@@ -1,5 +1,7 @@
 // What the programs write on standard output: text, numbers in decimal, words and floats by their bits, what calls answer, and what a slice holds.
 // Assumes nothing.
+#![tactic(auto)]
+
 use answer::{Answer, Proposal, Ratio, Refusal};
 use libc::STDOUT_FILENO;
 use real::Optional;

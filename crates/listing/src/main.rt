@@ -1,5 +1,7 @@
 // The listing program: reads a state file on standard input, makes the move that it asks for, and prints what came of it, or the refusal. An answer is at
 // most 15 bytes longer than its file: it has the same pairs and heights but for the root's number, and fewer lines before them. Assumes nothing beyond io.
+#![tactic(auto)]
+
 use libc::{STDIN_FILENO, STDOUT_FILENO};
 
 // The longest file that is looked at, in bytes.

@@ -1,4 +1,6 @@
 // Sets of tips as a host has them: a byte for each tip, not 0 where it is in the set. The calls of crate clades on such a set. Assumes nothing.
+#![tactic(auto)]
+
 ghost use Rattle.std.specs.Prelude.{◌≡◌, length};
 ghost use Rattle.tree.specs.Given.{tree_of};
 ghost use Rattle.clades.specs.Clades.{monophyly_call, age_call};

@@ -1,5 +1,7 @@
 // The reader's second pass over the bytes of a Newick text, as Filing has it: a digit first, and then the signs, and no slice is written past its end. The first pass
 // has judged the spelling by then; here any bytes will do. Assumes nothing.
+#![tactic(auto)]
+
 ghost use Rattle.std.specs.Prelude.{true, false, ◌≡◌, suc, ◌+◌, ◌-◌, ◌*◌, ◌^◌, ◌<◌, min, length, get_or, set, replicate};
 ghost use Rattle.tree.specs.Tree.{no_node};
 ghost use Rattle.newick_file.specs.Filing.{most, short, after_digit, after_point, after_tip, after_close, after_other, filing, pairs_closed, ups_ended};

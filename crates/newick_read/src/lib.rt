@@ -1,6 +1,8 @@
 // The reader of Newick texts, by change request S-1: the first pass judges the spelling, the second fills pairs, lengths and tips into local arrays; then the
 // tips, the root's age and the room are judged, and the result is written at the start of the lent slices, which stay as they are when the text is refused.
 // Assumes nothing.
+#![tactic(auto)]
+
 ghost use Rattle.std.specs.Prelude.{◌++◌, ◌≡◌, ◌+◌, ◌-◌, ◌≤◌, min, max, length, get_or, drop};
 ghost use Rattle.newick.specs.Copies.{taken, read_call};
 ghost use Rattle.newick_file.specs.Filing.{most};

@@ -2,6 +2,8 @@
 // without values: it knows where it stands, how many parentheses are open, and whether the innermost is at its second subtree. The same of those around it is
 // kept in an array as far as that goes; of those further in, the byte before the inner parenthesis tells it, for which the pass goes back in the text. Assumes
 // nothing.
+#![tactic(auto)]
+
 ghost use Rattle.std.specs.Prelude.{true, false, ◌≡◌, ◌≤◌, length, set};
 ghost use Rattle.newick_spell.specs.Spelling.{spelling_of};
 ghost use Rattle.newick_spell.specs.Spots.{Branch, Colon, Point, Sub};

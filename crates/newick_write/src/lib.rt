@@ -1,5 +1,7 @@
 // The writer of Newick copies: the text of an accepted tree, or of pairs with ages in whole thousandths, at the start of a lent slice. The text is measured
 // first, so that nothing is written where it does not fit. Assumes nothing.
+#![tactic(auto)]
+
 ghost use Rattle.std.specs.Prelude.{[], ◌∷◌, ◌++◌, ◌≡◌, ◌+◌, ◌-◌, ◌/◌, ◌%◌, ◌≤◌, length, get_or};
 ghost use Rattle.tree.specs.Given.{tree_of};
 ghost use Rattle.tree.specs.Tree.{nodes_of};

@@ -1,5 +1,7 @@
 // The small accessors of rove's tree.rs over lent slices: what the pairs, parents and heights of a tree say of a node. Each looks at nothing
 // but what it is asked for, and takes any slices; the root is `tree::root`, or what `tree::new` answered. Assumes nothing.
+#![tactic(auto)]
+
 ghost use Rattle.std.specs.Prelude.{◌≡◌};
 ghost use Rattle.tree.specs.Tree.{nodes_of, tips_of};
 ghost use Rattle.nodes.specs.Nodes.{parent_of, children_of, other_child, sibling_of, height_of, branch_length, tree_length};

@@ -1,5 +1,7 @@
 // The values and the lines of an answer's text, written into a lent slice from a place on as the crate print writes, and how long some of them are. Every
 // function that writes is total. Assumes nothing.
+#![tactic(auto)]
+
 ghost use Rattle.std.specs.Prelude.{◌≡◌, ◌≤◌, nat_abs, length};
 ghost use Rattle.text.specs.Text.{word_text, decimal_text};
 ghost use Rattle.print.specs.Writing.{written, write};

@@ -1,5 +1,7 @@
 // Every node of a tree with both children before their parent, in a lent slice: `postorder_into` of rove's tree.rs. It is filled from its end;
 // its first places hold the nodes that wait, so that neither a stack nor a second array is needed. Assumes nothing.
+#![tactic(auto)]
+
 ghost use Rattle.std.specs.Prelude.{◌≡◌, length};
 ghost use Rattle.tree.specs.Tree.{subtree};
 ghost use Rattle.tree.specs.Given.{tree_of};

@@ -1,6 +1,8 @@
 // Runs the calls on parameters: the tables of the moves, the relaxed clock, the Yule density and the scales. A line has the call with what it is
 // given and the answer, then what the call may change and the generator's words after it; floats are given by their bits, and a dash is a value
 // that is missing. "Document 01" is the client's scope paper. Assumes nothing.
+#![tactic(auto)]
+
 use clocks::RatesScaled;
 use kinds::Move;
 use lines::{

@@ -1,5 +1,7 @@
 // Texts written into a lent slice from a place on; each function hands back the place after. A slice that is full stays as it is, so that no caller has to
 // show that there is room. No public function has a `requires`. Assumes nothing.
+#![tactic(auto)]
+
 ghost use Rattle.std.specs.Prelude.{◌≡◌, ◌+◌, ◌-◌, ◌≤◌, ◌<◌, length};
 ghost use Rattle.text.specs.Text.{digit, word_text, decimal_text};
 ghost use Rattle.print.specs.Writing.{written, write_byte, write};

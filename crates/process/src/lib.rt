@@ -1,5 +1,7 @@
 // The fossilized birth–death process of rove's dating.rs and the priors of dating/process.rs: which parameters are estimated, and whether the
 // priors are in order. The densities stay out. Assumes nothing.
+#![tactic(auto)]
+
 ghost use Rattle.std.specs.Prelude.{◌≡◌};
 ghost use Rattle.std.specs.Float.Ieee.Scale.{finite};
 ghost use Rattle.real.specs.Real.{positive};

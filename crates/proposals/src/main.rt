@@ -1,6 +1,8 @@
 // Runs the calls of the seven tree moves on tree F, on small trees and on the smallest and the largest that are accepted: moved, declined and
 // refused for each reason that can be met. A line has the call and the answer, then the tree and the generator's words after the call; floats are
 // given by their bits. "Document 01" is the client's scope paper. Assumes nothing.
+#![tactic(auto)]
+
 use calls::{Answered, Height};
 use lines::{answer, bits, draws, floats, marks, number, refused, state, text};
 use random::Random;

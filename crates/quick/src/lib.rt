@@ -1,6 +1,8 @@
 // `validate` of a tree, for speed: a tree in which every child is younger than its parent passes a test that goes over the slices once, and any
 // other goes to `tree::validate`, which says what is wrong with it, if anything is. specs/Quick.antt has the test; specs/QuickLaws.antt shows that it lets only
 // valid trees pass. Assumes nothing.
+#![tactic(auto)]
+
 ghost use Rattle.std.specs.Prelude.{◌≡◌, ◌≤◌, ◌/◌, length};
 ghost use Rattle.tree.specs.Bounded.{every};
 ghost use Rattle.tree.specs.Given.{sizes_fit, tree_of};

@@ -1,6 +1,8 @@
 // The generator, xoshiro256++ seeded through SplitMix64, and its draws: the port of rove's random.rs without `normal` and `exponential`.
 // A generator goes in by value and comes back by value. Its words are private, so that the other crates use it through its methods alone.
 // Assumes nothing.
+#![tactic(auto)]
+
 ghost use Rattle.std.specs.Prelude.{◌≡◌, ◌+◌, ◌/◌, ◌%◌, ◌^◌, ◌<◌, ◌&&◌, pos};
 ghost use Rattle.std.specs.Float.{binary64};
 ghost use Rattle.std.specs.Float.Ieee.{of_int};

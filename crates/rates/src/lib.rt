@@ -1,5 +1,7 @@
 // The relaxed clock of rove's rates.rs: `RelaxedClock` with `new`, `branch_rate`, `set_sigma` and `set_rate`. A clock is lent as a slice of rates,
 // with sigma beside it by value. Every call refuses with 5 a clock that `new` would. Assumes nothing.
+#![tactic(auto)]
+
 ghost use Rattle.std.specs.Prelude.{◌≡◌, length};
 ghost use Rattle.tree.specs.Bounded.{every};
 ghost use Rattle.rates.specs.Clock.{positive_at, clock_fits, new_call, branch_rate_call, set_sigma_call, rate_set, set_rate_call};

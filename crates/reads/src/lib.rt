@@ -1,6 +1,8 @@
 // What a tree in lent slices says of a node, as the definitions of tree/Tree have it: a slice that is read past its end gives 0, or a NaN for a
 // height, so that nothing is asked of the slices and each index is tested where it is followed. The moves read a tree through these functions;
 // hosts have `nodes`, which refuses instead. Assumes nothing.
+#![tactic(auto)]
+
 ghost use Rattle.std.specs.Prelude.{◌≡◌, get_or};
 ghost use Rattle.std.specs.Float.{nan};
 ghost use Rattle.tree.specs.Tree.{inner, first_in, second_in, other_in};

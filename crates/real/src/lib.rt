@@ -1,5 +1,7 @@
 // Floats as far as trees and parameters need them: whether one is finite, positive or not negative, the larger and the smaller of two, the
 // bits in and out, and the age that is printed. No public function has a `requires`. Assumes nothing.
+#![tactic(auto)]
+
 ghost use Rattle.std.specs.Prelude.{◌≡◌};
 ghost use Rattle.std.specs.Float.{binary64};
 ghost use Rattle.std.specs.Float.Ieee.{of_bits, to_bits};

@@ -1,5 +1,7 @@
 // The recopy program: reads a Newick text on standard input and prints what it says, a line for its number of tips, one for each pair and one for each age in
 // whole thousandths above the youngest tip; then the text once more, written from these. Or the refusal, as the listing prints it. Assumes nothing beyond io.
+#![tactic(auto)]
+
 use libc::STDIN_FILENO;
 use newick::{Copied, Taken};
 

@@ -1,6 +1,8 @@
 // The record of a call: a slice of 64-bit words in which a host hands a call its numbers and finds what it answers. specs/Record.antt gives the place
 // and the form of each. A word that is not there reads as 0; what writes asks that the words are a record, which every call tests first, but for
 // `put_unready`, which tests it. Assumes nothing.
+#![tactic(auto)]
+
 ghost use Rattle.std.specs.Prelude.{◌≡◌, ◌<◌, ◌≤◌, [], ◌∷◌, length, slice_set, to_bits};
 ghost use Rattle.std.proofs.lemmas.List.Edits.{sets};
 ghost use Rattle.std.specs.Float.{binary64};

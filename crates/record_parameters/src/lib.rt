@@ -1,6 +1,8 @@
 // The parameters in a record (crate record): how a host hands a call its parameters, in words 13 to 31, and where it finds them after a call that
 // scaled them (specs/Parameters.antt); and how the calls that ask about a clock, a density or a clade answer in a record (specs/Answers.antt). What
 // writes asks that the words are a record. Assumes nothing.
+#![tactic(auto)]
+
 ghost use Rattle.std.specs.Prelude.{◌≡◌, ◌≤◌, length};
 ghost use Rattle.record.specs.Record.{written};
 ghost use Rattle.record_parameters.specs.Parameters.{optional_in, speciation_in, process_in, shapes_in, priors_in, chosen_in};

@@ -1,5 +1,7 @@
 // The replay program: answers state files that are stored with the Rust's answers, and says that all answers are alike, or which is the first that is
 // not. specs/Replay.antt says what the data is and what comes of it. Assumes nothing beyond io and os.
+#![tactic(auto)]
+
 ghost use Rattle.std.specs.Prelude.{◌≡◌, length, drop};
 ghost use Rattle.respond.specs.Respond.{file_reply};
 ghost use Rattle.replay.specs.Replay.{compared, within, counted, replay_case, outcome, replayed};

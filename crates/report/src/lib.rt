@@ -1,5 +1,7 @@
 // The text of an answer: written into a lent slice from its start, how long it is, and the two together, which write nothing where the slice is too short.
 // Assumes nothing.
+#![tactic(auto)]
+
 ghost use Rattle.std.specs.Prelude.{◌≡◌, ◌++◌, length};
 ghost use Rattle.text.specs.Text.{bytes};
 ghost use Rattle.print.specs.Writing.{written, write};

@@ -1,5 +1,7 @@
 // The answer of a state file: its tree is read into local arrays, the move that it asks for is made there, and the text of what came of it is put into
 // a lent slice. Nothing else is written, and a refused file changes nothing. No public function has a `requires`. Assumes nothing.
+#![tactic(auto)]
+
 ghost use Rattle.std.specs.Prelude.{◌≡◌, length};
 ghost use Rattle.tree.specs.Given.{tree_of};
 ghost use Rattle.calls.specs.Call.{called};

@@ -1,6 +1,8 @@
 // The functions that C and Rust hosts call with a tree in memory: its generator, `new`, `validate` and `postorder`, and the seven moves. Each takes
 // the words of a record (crate record) and then its slices, and returns the answer code: 0 done, 1 declined, 2 refused, 3 where there are not enough
 // words for a record, which changes nothing. None has a `requires`. include/rove.h declares them for C. Assumes nothing.
+#![tactic(auto)]
+
 ghost use Rattle.std.specs.Prelude.{◌≡◌, ◌≤◌, length};
 ghost use Rattle.moves.specs.Moves.{node_height, subtree_slide, narrow_exchange, wide_exchange, wilson_balding, root_scale, tree_scale};
 ghost use Rattle.record.specs.Record.{written, node_in, tuning_in};

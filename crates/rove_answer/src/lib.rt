@@ -1,4 +1,6 @@
 // The function that C and Rust hosts call with a whole state file. It has no `requires`. include/rove.h declares it for C. Assumes nothing.
+#![tactic(auto)]
+
 ghost use Rattle.std.specs.Prelude.{◌≡◌};
 ghost use Rattle.report.specs.Report.{delivery, delivered};
 ghost use Rattle.respond.specs.Respond.{file_reply};

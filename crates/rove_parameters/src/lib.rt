@@ -2,6 +2,8 @@
 // priors, the Yule density, tip dating and clades. Each takes the words of a record (crate record) and then its slices, with parameters in words 13 to 31
 // (crate record_parameters), and returns the answer code: 0 done, 1 declined, 2 refused, 3 where there are not enough words for a record, which changes
 // nothing. None has a `requires`. Assumes nothing.
+#![tactic(auto)]
+
 ghost use Rattle.std.specs.Prelude.{◌≡◌, ◌≤◌, length};
 ghost use Rattle.record.specs.Record.{written};
 ghost use Rattle.rove_parameters.specs.Exports.{scale_exported, clock_rate_exported, birth_difference_exported, birth_rate_exported, relative_death_exported, clock_sigma_exported, lent, branch_rate_scale_exported, field_left, fbd_exported};

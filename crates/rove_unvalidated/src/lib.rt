@@ -3,6 +3,8 @@
 // is accepted again, but for TreeScale on a tree with a tip that is not at zero: a tip may then stand above its parent, and a checked call or `rove_validate` comes
 // next. On any other slices each ends, reads and writes nothing outside them, and is harmless (calls/Harmless). None has a `requires`. include/rove.h declares them
 // for C. Assumes nothing.
+#![tactic(auto)]
+
 ghost use Rattle.std.specs.Prelude.{◌≡◌};
 ghost use Rattle.moves.specs.Moves.{node_height, subtree_slide, narrow_exchange, wide_exchange, wilson_balding, root_scale, tree_scale};
 ghost use Rattle.record.specs.Record.{written, node_in, tuning_in};

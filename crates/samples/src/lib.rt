@@ -1,4 +1,6 @@
 // What the programs give to the calls: trees, floats at the limits and generators. Assumes nothing.
+#![tactic(auto)]
+
 use lines::{colon, end, float, number, state, text};
 use random::Random;
 

@@ -1,6 +1,8 @@
 // The scales of parameters of mcmc/moves.rs: `scale` and every use of it, and what the other scales of parameters share with it. Each takes its parameters and
 // hands them back, scaled or as they came, with its answer and the generator. No entry point has a `requires`; `settle` has one, for the scales alone.
 // Assumes nothing.
+#![tactic(auto)]
+
 ghost use Rattle.std.specs.Prelude.{◌≡◌, ◌&&◌, ◌≤◌};
 ghost use Rattle.random.specs.Draw.{allowed};
 ghost use Rattle.calls.specs.Change.{proposed};

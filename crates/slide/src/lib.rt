@@ -2,6 +2,8 @@
 // step. Each has the call of its name, which refuses what is not in order, and an unvalidated one, which leaves the tree unchecked; all take
 // whatever is lent. What the unvalidated first call gives is promised on any slices. What the unvalidated second call and its turns make is promised
 // of a valid tree; on any slices they are harmless (calls/Harmless). Assumes nothing.
+#![tactic(auto)]
+
 ghost use Rattle.std.specs.Prelude.{◌≡◌, []};
 ghost use Rattle.random.specs.Draw.{run};
 ghost use Rattle.tree.specs.Given.{tree_of};

@@ -1,4 +1,6 @@
 // The speciation state of rove's speciation.rs, and the terms of the Yule density of a tree. The birth–death density stays out. Assumes nothing.
+#![tactic(auto)]
+
 ghost use Rattle.std.specs.Prelude.{◌≡◌, [], length};
 ghost use Rattle.tree.specs.Tree.{tips_of};
 ghost use Rattle.tree.specs.Bounded.{every};

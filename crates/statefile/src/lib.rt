@@ -1,4 +1,6 @@
 // The state file, read into lent slices. specs/StateFile.antt says what a file holds and how its lines are counted. Assumes nothing.
+#![tactic(auto)]
+
 ghost use Rattle.std.specs.Prelude.{◌≡◌, ◌+◌, ◌-◌, ◌^◌, ◌<◌, set, drop};
 ghost use Rattle.text.specs.Places.{DigitValues};
 ghost use Rattle.statefile.specs.StateFile.{nodes_for, supplied, asked, head};

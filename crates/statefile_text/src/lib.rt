@@ -1,5 +1,7 @@
 // The text of a state, as document 01's state file has it: written into a lent slice from its start, what room it leaves, and the two together, which write
 // nothing where the slice is too short. Assumes nothing.
+#![tactic(auto)]
+
 ghost use Rattle.std.specs.Prelude.{◌≡◌, suc, ◌+◌, ◌-◌, length};
 ghost use Rattle.std.specs.Float.{binary64};
 ghost use Rattle.std.specs.Float.Ieee.{to_bits};

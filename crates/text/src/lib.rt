@@ -1,5 +1,7 @@
 // Reading a text by the rules of a grammar, from a place of a lent slice on; a place past the end has nothing after it. An answer is the place
 // where what was read ends, or says that the text does not go on there as the rule says. Assumes nothing.
+#![tactic(auto)]
+
 ghost use Rattle.std.specs.Prelude.{[], ◌∷◌, ◌≡◌, ◌<◌, drop};
 ghost use Rattle.text.specs.Text.{digit};
 ghost use Rattle.text.specs.Rules.{literal, word, decimal, decimal_after, is_decimal, value_of};

@@ -1,5 +1,7 @@
 // Trees in lent slices: node k's children are at 2k and 2k + 1 of the pairs, and 65,535 is no node. `new` and `validate` of rove's tree.rs,
 // and the root. specs/Tree.antt and New.antt say what they give, specs/Valid.antt what an accepted tree is. Assumes nothing.
+#![tactic(auto)]
+
 ghost use Rattle.std.specs.Prelude.{◌≡◌, ◌-◌, ◌<◌, length};
 ghost use Rattle.answer.specs.declared.Refusal.TheVariants.{Height};
 ghost use Rattle.tree.specs.declared.Verdict.TheVariants.{Fine};

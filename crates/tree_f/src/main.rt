@@ -1,5 +1,7 @@
 // Runs the accessors, `postorder`, `is_monophyletic_in` and the clade's age on tree F of document 01, the client's scope paper, and prints what is
 // answered. Assumes nothing.
+#![tactic(auto)]
+
 use clades::{Age, Monophyly};
 use lines::{marks, number, refused, text, verdict};
 use nodes::{Node, Pair, Quantity};

@@ -1,5 +1,7 @@
 // Runs `Tree::new` and `validate` on small trees, on the smallest and the largest that are accepted, and on each kind of fault, and prints what
 // is answered. Assumes nothing.
+#![tactic(auto)]
+
 use lines::{marks, number, refused, text, verdict};
 use samples::{
     F_HEIGHTS, F_PAIRS, F_PARENTS, NONE, infinity, most_heights, most_pairs, nan, put_comb,

@@ -1,5 +1,7 @@
 // Runs published vectors of xoshiro256++ and SplitMix64 and the generator's calls at their limits, and prints what agrees and what is answered.
 // Assumes nothing.
+#![tactic(auto)]
+
 use lines::{end, float, number, refused, text};
 use random::{Below, Random};
 use std::num::wrapping_add_u64;

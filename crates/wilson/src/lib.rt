@@ -1,6 +1,8 @@
 // WilsonBalding of rove's mcmc/moves.rs over lent slices: the call of that name, which refuses what is not in order, and an unvalidated one, which
 // leaves the tree unchecked; both take whatever is lent. Of an accepted tree both leave the same, and of any slices the unvalidated one leaves what is
 // harmless: its turn is the defined one of a valid tree, and mild on any slices. Assumes nothing.
+#![tactic(auto)]
+
 ghost use Rattle.std.specs.Prelude.{◌≡◌, []};
 ghost use Rattle.random.specs.Draw.{pick, run, drawn_number};
 ghost use Rattle.tree.specs.Tree.{nodes_of};

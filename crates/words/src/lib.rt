@@ -1,6 +1,8 @@
 // Operations on 64-bit words that the language lacks: the low and the high word of a product, and rotation.
 // Each contract is exact and holds for all words. The products are cut into halves of 32 bits, in the forms that the compiler turns into one
 // machine product each. Assumes nothing.
+#![tactic(auto)]
+
 ghost use Rattle.std.specs.Prelude.{◌≡◌, ◌*◌, ◌/◌, ◌%◌, ◌^◌};
 ghost use Rattle.words.specs.Words.{rotl, two_words};
 
