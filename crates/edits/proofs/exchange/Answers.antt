@@ -6,8 +6,4 @@ use Rattle.edits.proofs.exchange.Goals as goal
 -- the places after the four calls, from the last to the first
 pub returns : goal.returns
 returns c = λ v.
-    let second = c.before.before.before.before in
-    let first = second.before.before.before.before.before.before.before in
-    let y = first.before.before.before in
-    let x = y.before.before.before in
-    exchanged _ _ _ _ _ _ _ _ _ _ _ v x.slot-of.ensures y.slot-of2.ensures first.put.ensures (search rules) (search rules) second.put2.ensures
+    exchanged _ _ _ _ _ _ _ _ _ _ _ v c.slot_of-x.ensures c.slot_of-y.ensures c.put-first.ensures (search rules) (search rules) c.put-first.ensures
