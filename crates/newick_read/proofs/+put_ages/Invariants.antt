@@ -2,4 +2,4 @@
 use Rattle.newick_read.proofs.+put_ages.Given as goal
 
 abbrev pub decreases-put_ages : goal.decreases-put_ages
-decreases-put_ages l = ?
+decreases-put_ages l = l.depth

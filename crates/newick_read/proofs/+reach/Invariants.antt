@@ -2,4 +2,4 @@
 use Rattle.newick_read.proofs.+reach.Given as goal
 
 abbrev pub decreases-reach : goal.decreases-reach
-decreases-reach l = ?
+decreases-reach l = l.depth

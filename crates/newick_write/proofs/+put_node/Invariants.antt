@@ -2,4 +2,4 @@
 use Rattle.newick_write.proofs.+put_node.Given as goal
 
 abbrev pub decreases-put_node : goal.decreases-put_node
-decreases-put_node l = ?
+decreases-put_node l = l.depth

@@ -2,4 +2,4 @@
 use Rattle.newick_write.proofs.+take_node.Given as goal
 
 abbrev pub decreases-take_node : goal.decreases-take_node
-decreases-take_node l = ?
+decreases-take_node l = l.depth
