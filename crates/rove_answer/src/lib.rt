@@ -10,8 +10,7 @@ const LONGEST: usize = 131072;
 
 // The answer to a file of up to 131,072 bytes, as the listing prints it of shorter ones, at the start of `answer`, and how long it is; 0, with nothing written,
 // where `answer` is too short.
-#[unsafe(no_mangle)]
-pub extern "C" fn rove_answer(file: &[u8], answer: &mut [u8]) -> usize
+pub fn rove_answer(file: &[u8], answer: &mut [u8]) -> usize
     ensures { delivery result answer.new ≡ delivered answer.old (file_reply 131072 file.now) }
 {
     respond::respond(file, LONGEST, answer)

@@ -62,8 +62,7 @@ fn put_taken(words: &mut [u64], taken: Taken) -> u64
 }
 
 // The Newick text of the tree, whose root is in word 4, at the start of `out`; its length goes into word 11.
-#[unsafe(no_mangle)]
-pub extern "C" fn rove_write_newick(
+pub fn rove_write_newick(
     words: &mut [u64],
     pairs: &[u16],
     parents: &[u16],
@@ -80,13 +79,7 @@ pub extern "C" fn rove_write_newick(
 }
 
 // What a Newick text says, at the start of `pairs` and of `ages`; the number of nodes goes into word 11.
-#[unsafe(no_mangle)]
-pub extern "C" fn rove_read_newick(
-    words: &mut [u64],
-    text: &[u8],
-    pairs: &mut [u16],
-    ages: &mut [u64],
-) -> u64
+pub fn rove_read_newick(words: &mut [u64], text: &[u8], pairs: &mut [u16], ages: &mut [u64]) -> u64
     ensures { read_left (written result words.new) pairs.new ages.new ≡ read_exported text.now pairs.old ages.old words.old }
 {
     if record::is_record(words) {
