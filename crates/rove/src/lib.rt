@@ -1,6 +1,6 @@
 // The functions that C and Rust hosts call with a tree in memory: its generator, `new`, `validate` and `postorder`, and the seven moves. Each takes
 // the words of a record (crate record) and then its slices, and returns the answer code: 0 done, 1 declined, 2 refused, 3 where there are not enough
-// words for a record, which changes nothing. None has a `requires`. include/rove.h declares them for C. Assumes nothing.
+// words for a record, which changes nothing. None has a `requires`. Crate rove_c exports them, and include/rove.h declares them for C. Assumes nothing.
 #![tactic(auto)]
 
 ghost use Rattle.std.specs.Prelude.{◌≡◌, ◌≤◌, length};
