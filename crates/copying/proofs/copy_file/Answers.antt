@@ -25,7 +25,7 @@ pub copy_tree-requires : goal.copy_tree-requires
 copy_tree-requires c =
     parts-each
     c.node_count-n.result
-    c.read_state-read.new.1.0
+    c.read_state-read.new.pairs
     c.parents_room-parents.result
     (omega arith)
     (omega arith)
