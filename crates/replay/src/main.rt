@@ -1,5 +1,5 @@
 // The replay program: answers state files that are stored with the Rust's answers, and says that all answers are alike, or which is the first that is
-// not. specs/Replay.antt says what the data is and what comes of it. Assumes nothing beyond io and os.
+// not. specs/Replay.antt says what the data is and what comes of it. Assumes nothing beyond std.
 #![tactic(auto)]
 
 ghost use Rattle.std.specs.Prelude.{◌≡◌, length, drop};
@@ -7,7 +7,10 @@ ghost use Rattle.respond.specs.Respond.{file_reply};
 ghost use Rattle.replay.specs.Replay.{compared, within, counted, replay_case, outcome, replayed};
 ghost use Rattle.replay.specs.Given.{texted, Inside, stepped};
 
-use lines::{number, text};
+use std::alloc::{AllocError, Global};
+use std::fs::File;
+use std::io;
+use std::io::Read;
 use text::Number;
 
 // The longest file that is looked at, in bytes.
@@ -155,42 +158,34 @@ fn replay(s: &[u8]) -> Outcome
     replay_cases(s, i, count as usize)
 }
 
-fn print(outcome: Outcome) {
+fn print(rt: &impl Print, outcome: Outcome) -> io::Result<()> {
     match outcome {
-        Outcome::Alike(count) => {
-            number(count as u64);
-            text(b" cases replayed, none differs\n");
-        }
-        Outcome::Differs(case, place) => {
-            text(b"case ");
-            number(case as u64);
-            text(b" differs: its answer is the one stored for ");
-            number(place as u64);
-            text(b" bytes only\n");
-        }
-        Outcome::Malformed(count) => {
-            text(b"the data is not of its form after ");
-            number(count as u64);
-            text(b" cases\n");
-        }
+        Outcome::Alike(count) => println!(rt; "{count} cases replayed, none differs"),
+        Outcome::Differs(case, place) => println!(rt;
+            "case {case} differs: its answer is the one stored for {place} bytes only"
+        ),
+        Outcome::Malformed(count) => println!(rt;
+            "the data is not of its form after {count} cases"
+        ),
     }
 }
 
 // Room for the data, and more.
-fn data_room() -> [u8; 2000000] {
-    [0u8; 2000000]
+fn data_room(alloc: Global) -> Result<Vec<u8>, AllocError> {
+    Vec::with_capacity(alloc, 2000000)
 }
 
-fn main() {
-    let name = b"cases";
-    let file = os::open_read(name);
-    if file < 0 {
-        os::fail(name);
-        text(b"the data cannot be opened\n");
-        return;
+fn main(rt: HostRuntime) -> io::Result<()> {
+    let name = "cases";
+    match File::open(&rt, name) {
+        Ok(mut file) => {
+            let mut data = data_room(rt.alloc())?;
+            file.read_to_end(&mut data)?;
+            print(&rt, replay(&data))
+        }
+        Err(error) => {
+            eprintln!(rt; "{name}: {error}")?;
+            println!(rt; "the data cannot be opened")
+        }
     }
-    let mut data = data_room();
-    let count = io::read_full(file, &mut data);
-    libc::close(file);
-    print(replay(&data[..count]));
 }
