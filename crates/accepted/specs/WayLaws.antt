@@ -63,7 +63,7 @@ module _ (n : ℕ) (t : Tree) (l : Linked n t) where
   ancestor-way (arrived p) K (suc e) h = absurd (omega arith)
   ancestor-way (climbs {d} {k} p w) K (suc e) h =
       let z : suc d - suc e ≡ d - e = omega arith in
-      rw z (ancestor-way w (l.below k K p).parent_node e (omega arith))
+      rw z (ancestor-way {d = d} {k = parent t k} w (l.below k K p).parent_node e (omega arith))
 
   -- a way to the root has fewer steps than there are nodes, since it meets no node twice
   pub way-short : {d k : ℕ} → Way t d k → k < n → d < n

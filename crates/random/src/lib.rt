@@ -27,7 +27,7 @@ const TWO_TO_52_BITS: u64 = 0x4330_0000_0000_0000;
 const TWO_TO_MINUS_53: f64 = 1.1102230246251565e-16;
 
 // The generator. All four words may be zero.
-#[derive(Drop)]
+#[derive(Clone, Copy)]
 pub struct Random {
     state: [u64; 4],
 }
@@ -249,7 +249,7 @@ fn is_fair(low: u64, n: u64) -> bool
 }
 
 // A generator with the draws that are left to it, handed from draw to draw within a call. The draws made are those allowed less those left.
-#[derive(Drop)]
+#[derive(Clone, Copy)]
 pub struct Supply {
     pub random: Random,
     pub left: u32,

@@ -1,3 +1,0 @@
--- What the proofs of lent share.
-mod BodyLaws
-mod DrawLaws

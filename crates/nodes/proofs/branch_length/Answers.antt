@@ -1,0 +1,23 @@
+-- `nodes::branch_length` meets its contract. Assumes nothing.
+use Rattle.tree.specs.PlaceLaws.{wide16}
+use Rattle.nodes.proofs.NodeLaws.{branch_laws}
+use borrow.Author.Rules.{rules}
+use Rattle.nodes.proofs.branch_length.Goals as goal
+
+pub overflow_cast-p : goal.overflow_cast-p
+overflow_cast-p c = search (wide16, rules)
+
+pub returns-then-p-eq65535 : goal.returns-then-p-eq65535
+returns-then-p-eq65535 c = search (branch_laws, rules)
+
+pub returns-then-p-heights : goal.returns-then-p-heights
+returns-then-p-heights c = search (branch_laws, rules)
+
+pub returns-then-node-parents : goal.returns-then-node-parents
+returns-then-node-parents c = search (branch_laws, rules)
+
+pub returns-then-heights-parents : goal.returns-then-heights-parents
+returns-then-heights-parents c = search (branch_laws, rules)
+
+pub returns : goal.returns
+returns c = search (branch_laws, rules)

@@ -1,0 +1,25 @@
+-- `tree::new` meets its contract. Assumes nothing.
+use Rattle.tree.proofs.CallLaws.{entry_laws}
+use borrow.Author.Rules.{rules}
+use Rattle.tree.proofs.new.Goals as goal
+
+pub sizes_fit-requires : goal.sizes_fit-requires
+sizes_fit-requires c = search (entry_laws, rules)
+
+pub blank-place-requires : goal.blank-place-requires
+blank-place-requires c = search (entry_laws, rules)
+
+pub slice_bounds-place-end : goal.slice_bounds-place-end
+slice_bounds-place-end c = search (entry_laws, rules)
+
+pub slice_bounds-new_in-end : goal.slice_bounds-new_in-end
+slice_bounds-new_in-end c = search (entry_laws, rules)
+
+pub new_in-requires : goal.new_in-requires
+new_in-requires c = search (entry_laws, rules)
+
+pub returns-then-sizes_fit : goal.returns-then-sizes_fit
+returns-then-sizes_fit c = search (entry_laws, rules)
+
+pub returns : goal.returns
+returns c = search (entry_laws, rules)
