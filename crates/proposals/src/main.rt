@@ -15,7 +15,7 @@ use std::io;
 use std::io::{BufWriter, Write};
 
 // A move with its parameters. `Start` is the first call of a slide, `Slide` the second.
-#[derive(Drop)]
+#[derive(Clone, Copy)]
 enum Move {
     NodeHeight,
     Start,
@@ -28,7 +28,7 @@ enum Move {
 }
 
 // A move, with the number of its generator and its allowance.
-#[derive(Drop)]
+#[derive(Clone, Copy)]
 struct Call {
     to: Move,
     seed: u64,

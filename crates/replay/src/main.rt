@@ -20,21 +20,21 @@ const LONGEST: usize = 131072;
 const MOST: u32 = 4294967295;
 
 // Two texts: alike, or the first place where they are not, which may be where one of them ends.
-#[derive(Drop)]
+#[derive(Clone, Copy)]
 pub enum Compared {
     Alike,
     Differ(usize),
 }
 
 // Where a text of the data starts and ends.
-#[derive(Drop)]
+#[derive(Clone, Copy)]
 pub enum Span {
     Between(usize, usize),
     Malformed,
 }
 
 // What comes of a case: the answer is the one stored, and the case ends at a place; the answer differs at a place; or the case is not of its form.
-#[derive(Drop)]
+#[derive(Clone, Copy)]
 pub enum Step {
     Alike(usize),
     Differs(usize),
@@ -43,7 +43,7 @@ pub enum Step {
 
 // What comes of the data: so many cases, all alike; the first case that differs, by its number from 1, and the place in its answer; or after how many
 // cases the data is not of its form.
-#[derive(Drop)]
+#[derive(Clone, Copy)]
 pub enum Outcome {
     Alike(usize),
     Differs(usize, usize),
