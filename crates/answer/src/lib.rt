@@ -6,7 +6,7 @@ ghost use Rattle.std.specs.Prelude.{◌≡◌};
 ghost use Rattle.answer.specs.Answers.{number_of, detail_of};
 
 // Why a call is turned back, in the order of the refusals' numbers 1 to 9.
-#[derive(Drop)]
+#[derive(Clone, Copy)]
 pub enum Refusal {
     // The node count is under 3, even or over 4,095, or lengths disagree; the count.
     Size(usize),

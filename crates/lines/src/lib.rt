@@ -25,9 +25,14 @@ pub fn number(out: &mut impl Write, n: u64) -> io::Result<()> {
     write!(out, "{n}")
 }
 
-// The bits of a float, in 16 hexadecimal digits.
+// A word in 16 hexadecimal digits.
+fn hex(out: &mut impl Write, n: u64) -> io::Result<()> {
+    write!(out, "{n:016x}")
+}
+
+// The bits of a float, in the same way.
 pub fn bits(out: &mut impl Write, x: f64) -> io::Result<()> {
-    write!(out, "{:016x}", real::to_bits(x))
+    hex(out, real::to_bits(x))
 }
 
 // A float after a space.
