@@ -49,11 +49,9 @@ pub fn put_flat(pairs: &mut [u16]) {
 // Each node after the tips is one higher than the one before it.
 pub fn put_heights(heights: &mut [f64]) {
     let mut height = 0.0;
-    let mut k = heights.len() / 2 + 1;
-    while k < heights.len() {
+    for k in heights.len() / 2 + 1..heights.len() {
         height += 1.0;
         heights[k] = height;
-        k += 1;
     }
 }
 
