@@ -43,20 +43,6 @@ put_branch-requires t c = search (put_laws, less_laws, rules)
 pub shape_of-out-then-is_inner : goal.shape_of-out-then-is_inner
 shape_of-out-then-is_inner t c = search (put_laws, less_laws, rules)
 
-pub returns-then-is_inner : goal.returns-then-is_inner
-returns-then-is_inner t c =
-    let lower = c.before.before in
-    let second = lower.before.before.before.before in
-    let upper = second.before.before.before.before in
-    let first = upper.before.before.before.before in
-    let opening = first.before.before.before.before in
-    let children = opening.before.before in
-    let inner = children.before in
-    let asked = inner.before in
-    let deep = asked.before in
-    node-join _ _ _ _ _ _ deep.if1.false _ asked.is-inner.ensures inner.if2.true _ children.read-children.ensures _ _ _ _ _
-    opening.put_byte.ensures first.put-node.ensures upper.put-branch.ensures second.put-node2.ensures lower.put-branch2.ensures
-
 pub put_number-requires-2 : goal.put_number-requires-2
 put_number-requires-2 t c = search (put_laws, less_laws, rules)
 
@@ -65,3 +51,8 @@ shape_of-out t c = search (put_laws, less_laws, rules)
 
 pub returns : goal.returns
 returns t c = search (put_laws, less_laws, rules)
+
+pub returns-then-is_inner : goal.returns-then-is_inner
+returns-then-is_inner t c =
+    node-join _ _ _ _ _ _ c.if-depth-eq0.false _ c.is_inner.ensures c.if-is_inner.true _ c.read_children-c.ensures _ _ _ _ _
+    c.put_byte-first.ensures c.put_node-colon.ensures c.put_branch-second.ensures c.put_node-last.ensures c.put_branch.ensures
