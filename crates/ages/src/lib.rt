@@ -13,7 +13,7 @@ use process::FossilizedBirthDeath;
 use tree::Verdict;
 
 // The least and the greatest age of a tip, or of the interval that is left to it under its parent.
-#[derive(Drop)]
+#[derive(Clone, Copy)]
 pub struct TipAge {
     pub minimum: f64,
     pub maximum: f64,

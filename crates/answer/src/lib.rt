@@ -63,7 +63,7 @@ impl Refusal {
 }
 
 // The Hastings ratio before its logarithm is taken: 1 over 1, a over b, or f to the power k.
-#[derive(Drop)]
+#[derive(Clone, Copy)]
 pub enum Ratio {
     Even,
     Counts(usize, usize),
@@ -72,7 +72,7 @@ pub enum Ratio {
 }
 
 // A move that was made: the root after it, the draws made and the ratio.
-#[derive(Drop)]
+#[derive(Clone, Copy)]
 pub struct Moved {
     pub root: usize,
     pub draws: u32,
@@ -80,7 +80,7 @@ pub struct Moved {
 }
 
 // Declined carries the draws made.
-#[derive(Drop)]
+#[derive(Clone, Copy)]
 pub enum Answer {
     Moved(Moved),
     Declined(u32),
@@ -89,7 +89,7 @@ pub enum Answer {
 
 // What a call on parameters answers: scaled, with the draws made and the ratio; declined, with the draws made; or refused. The parameters
 // stand beside it.
-#[derive(Drop)]
+#[derive(Clone, Copy)]
 pub enum Proposal {
     Scaled(u32, Ratio),
     Declined(u32),

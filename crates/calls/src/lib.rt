@@ -18,7 +18,7 @@ use tree::Verdict;
 const LEAST_TUNING: u64 = 0x3e45_798e_e230_8c3a;
 
 // An answer, and the generator after the call.
-#[derive(Drop)]
+#[derive(Clone, Copy)]
 pub struct Answered {
     pub answer: Answer,
     pub random: Random,
@@ -26,7 +26,7 @@ pub struct Answered {
 
 // How a turn ended: with the root and the ratio of a move, without a move, or in what refuses the call (more draws needed than are left, a
 // node whose new height is not finite, or one whose drawn height is outside its interval), the tree then being as it was.
-#[derive(Drop)]
+#[derive(Clone, Copy)]
 pub enum Turned {
     Moved(usize, Ratio),
     Declined,
@@ -36,14 +36,14 @@ pub enum Turned {
 }
 
 // A turn's end, and the supply after it.
-#[derive(Drop)]
+#[derive(Clone, Copy)]
 pub struct Turn {
     pub turned: Turned,
     pub supply: Supply,
 }
 
 // A height that is inside its interval, or that one is not.
-#[derive(Drop)]
+#[derive(Clone, Copy)]
 pub enum Height {
     At(f64),
     Outside,

@@ -13,14 +13,14 @@ use real::Printed;
 use tree::Verdict;
 
 // Whether some node has exactly the marked tips below it, or why the call is turned back.
-#[derive(Drop)]
+#[derive(Clone, Copy)]
 pub enum Monophyly {
     Is(bool),
     Refused(Refusal),
 }
 
 // The age of a clade in whole thousandths, or why the call is turned back.
-#[derive(Drop)]
+#[derive(Clone, Copy)]
 pub enum Age {
     Thousandths(u64),
     Refused(Refusal),

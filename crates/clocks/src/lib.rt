@@ -16,7 +16,7 @@ use real::Optional;
 use scales::{OptionalScaled, Scaled};
 
 // An answer and the generator after the call, the rates being lent.
-#[derive(Drop)]
+#[derive(Clone, Copy)]
 pub struct RatesScaled {
     pub proposal: Proposal,
     pub random: Random,

@@ -13,7 +13,7 @@ use random::{Random, Supply};
 use scales::Scaled;
 
 // An answer, with the process and the generator after the call.
-#[derive(Drop)]
+#[derive(Clone, Copy)]
 pub struct ProcessScaled {
     pub proposal: Proposal,
     pub process: FossilizedBirthDeath,
@@ -21,7 +21,7 @@ pub struct ProcessScaled {
 }
 
 // The fields of a process that are scaled.
-#[derive(Drop)]
+#[derive(Clone, Copy)]
 pub enum Field {
     Birth,
     Death,

@@ -12,7 +12,7 @@ ghost use Rattle.forms.specs.Given.{worded, named, paired};
 use text::{Number, Place};
 
 // The moves that a file can name.
-#[derive(Drop)]
+#[derive(Clone, Copy)]
 pub enum Kind {
     NodeHeight,
     SubtreeSlide,
@@ -24,7 +24,7 @@ pub enum Kind {
 }
 
 // The four words of a generator.
-#[derive(Drop)]
+#[derive(Clone, Copy)]
 pub struct Words {
     pub a: u64,
     pub b: u64,
@@ -33,21 +33,21 @@ pub struct Words {
 }
 
 // Four words and where they end.
-#[derive(Drop)]
+#[derive(Clone, Copy)]
 pub enum Four {
     Given(Words, usize),
     Malformed,
 }
 
 // The name of a move and where it ends.
-#[derive(Drop)]
+#[derive(Clone, Copy)]
 pub enum Named {
     Name(Kind, usize),
     Unknown,
 }
 
 // The children of a node and where their line ends.
-#[derive(Drop)]
+#[derive(Clone, Copy)]
 pub enum Pair {
     Children(u16, u16, usize),
     Malformed,

@@ -7,7 +7,7 @@ ghost use Rattle.kinds.specs.Table.{row_of};
 use real::Optional;
 
 // All of rove's moves, ported or not, in the Rust's order.
-#[derive(Drop)]
+#[derive(Clone, Copy)]
 pub enum Move {
     FbdBirthScale,
     FbdDeathScale,

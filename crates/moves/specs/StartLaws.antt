@@ -14,7 +14,7 @@ use Rattle.tree.specs.Tree.{Tree, nodes_of}
 use Rattle.tree.specs.New.{Accepted}
 use Rattle.accepted.specs.AcceptedLaws.{accepted-valid}
 use Rattle.accepted.specs.ValidatedLaws.{valid-fine}
-use Rattle.calls.specs.Call.{Reply, makes, refused, given, ended, checked, call_of}
+use Rattle.calls.specs.Call.{Reply, makes, not_finite, outside, refused, given, ended, checked, call_of}
 use Rattle.calls.specs.Draws.{non_root}
 use Rattle.moves.specs.Programs.{Start, slide_start}
 use Rattle.moves.specs.Moves.{start_call, unvalidated_start}
@@ -64,6 +64,8 @@ start-ends t v g a k = rw (valid-fine (nodes_of t.pairs) t (accepted-valid t v),
         made : (r : Reply Start) → Replied t r
             → ((s : Start) × (draws : ℕ) × (h : Random) × (ended a (got r u) ≡ given s draws h)) ⊎ (ended a (got r u) ≡ refused (Allowance a))
         made (makes s) (replied x) = inl (s, a - u.left, u.random, refl)
+        made (not_finite i) x = elim x [ ]
+        made (outside i) x = elim x [ ]
 
 -- on an accepted tree the limits are all that is left to check
 pub accepted-start : (t : Tree) → Accepted t → (g : Random) (a : ℕ) → unvalidated_start t g a ≡ start_call t g a

@@ -5,7 +5,7 @@
 use answer::Refusal;
 
 // What the writer answers: so many bytes were written; or a refusal, 1 to 5; or 10, the lent slice being too short.
-#[derive(Drop)]
+#[derive(Clone, Copy)]
 pub enum Copied {
     Bytes(usize),
     Refused(Refusal),
@@ -13,7 +13,7 @@ pub enum Copied {
 }
 
 // What the reader answers: the text has so many nodes; or 9, with the place of its fault; or 10, a lent slice being too short.
-#[derive(Drop)]
+#[derive(Clone, Copy)]
 pub enum Taken {
     Nodes(usize),
     Place(usize),

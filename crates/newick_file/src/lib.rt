@@ -12,7 +12,7 @@ ghost use Rattle.newick_file.specs.Passes.{Built};
 const MOST: u64 = 9_007_199_254_740_992;
 
 // Where the pass stands: how many nodes wait, the number of the next parenthesis to close, the number being read, whether the byte before closed one.
-#[derive(Drop)]
+#[derive(Clone, Copy)]
 struct Filer {
     height: usize,
     next: usize,

@@ -11,7 +11,7 @@ ghost use Rattle.newick_spell.specs.Stands.{comma_before, Closes, Stands};
 ghost use Rattle.newick_spell.specs.Tokens.{is_sign, is_digit, stopped, Skips, NumberFrom, Ends, AtPoint, AtColon, AtTip, Finishes, Reaches};
 
 // What the pass answers: the place of the first forbidden byte; or that only the end is missing; or that nothing is.
-#[derive(Drop)]
+#[derive(Clone, Copy)]
 pub enum Spelling {
     Forbidden(usize),
     Unfinished,
@@ -19,14 +19,14 @@ pub enum Spelling {
 }
 
 // Where a token ends, or the place where it breaks off.
-#[derive(Drop)]
+#[derive(Clone, Copy)]
 enum Went {
     To(usize),
     Not(usize),
 }
 
 // Where the pass stands, with how many parentheses open, and whether the innermost is at its second subtree.
-#[derive(Drop)]
+#[derive(Clone, Copy)]
 struct Scan {
     at: usize,
     depth: usize,
@@ -34,7 +34,7 @@ struct Scan {
 }
 
 // Where a part of the pass leads, or what it answers.
-#[derive(Drop)]
+#[derive(Clone, Copy)]
 enum Passed {
     To(Scan),
     Is(Spelling),

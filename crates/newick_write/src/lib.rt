@@ -93,7 +93,7 @@ fn branch(ages: &[u64], node: usize, child: usize) -> u64
 }
 
 // The children of a node, each with the length of its branch.
-#[derive(Drop)]
+#[derive(Clone, Copy)]
 struct Children {
     first: usize,
     second: usize,
@@ -144,7 +144,7 @@ fn put_node(
 // ---- space
 
 // How many bytes are left for a text, or that there were too few.
-#[derive(Drop)]
+#[derive(Clone, Copy)]
 enum Space {
     Left(usize),
     Short,

@@ -9,7 +9,7 @@ ghost use Rattle.nodes.specs.Nodes.{parent_of, children_of, other_child, sibling
 use answer::Refusal;
 
 // A node; that there is none; or why the call is turned back.
-#[derive(Drop)]
+#[derive(Clone, Copy)]
 pub enum Node {
     Is(usize),
     Nothing,
@@ -17,7 +17,7 @@ pub enum Node {
 }
 
 // The two children of an internal node; that the node is a tip; or why the call is turned back.
-#[derive(Drop)]
+#[derive(Clone, Copy)]
 pub enum Pair {
     Of(usize, usize),
     Tip,
@@ -25,7 +25,7 @@ pub enum Pair {
 }
 
 // A height or a length, or why the call is turned back.
-#[derive(Drop)]
+#[derive(Clone, Copy)]
 pub enum Quantity {
     Is(f64),
     Refused(Refusal),

@@ -13,7 +13,7 @@ use real::Optional;
 use tree::Verdict;
 
 // The process: three rates, the probability that a tip at the present is sampled, and the age of the origin.
-#[derive(Drop)]
+#[derive(Clone, Copy)]
 pub struct FossilizedBirthDeath {
     pub birth: f64,
     pub death: f64,
@@ -23,14 +23,14 @@ pub struct FossilizedBirthDeath {
 }
 
 // The two shapes of a beta prior, which may be missing.
-#[derive(Drop)]
+#[derive(Clone, Copy)]
 pub enum Shapes {
     Missing,
     Given(f64, f64),
 }
 
 // The priors. A parameter whose prior is missing is fixed; it is not estimated.
-#[derive(Drop)]
+#[derive(Clone, Copy)]
 pub struct ProcessPriors {
     pub birth_rate_mean: Optional,
     pub death_rate_mean: Optional,

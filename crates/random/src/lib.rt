@@ -33,35 +33,35 @@ pub struct Random {
 }
 
 // A draw, and the generator after it.
-#[derive(Drop)]
+#[derive(Clone, Copy)]
 pub struct DrawnWord {
     pub value: u64,
     pub random: Random,
 }
 
 // A uniform on [0, 1), and the generator after it.
-#[derive(Drop)]
+#[derive(Clone, Copy)]
 pub struct DrawnUniform {
     pub value: f64,
     pub random: Random,
 }
 
 // A side, true being the first, and the generator after it.
-#[derive(Drop)]
+#[derive(Clone, Copy)]
 pub struct DrawnCoin {
     pub value: bool,
     pub random: Random,
 }
 
 // A number with the draws made for it, or a refusal.
-#[derive(Drop)]
+#[derive(Clone, Copy)]
 pub enum Below {
     Drawn(usize, u32),
     Refused(Refusal),
 }
 
 // The answer of `below`, and the generator after it; after a refusal, the generator as it came.
-#[derive(Drop)]
+#[derive(Clone, Copy)]
 pub struct DrawnBelow {
     pub answer: Below,
     pub random: Random,
@@ -256,7 +256,7 @@ pub struct Supply {
 }
 
 // A number and the supply after it. Where more draws are needed than are left, `ok` is false and the supply is as it came.
-#[derive(Drop)]
+#[derive(Clone, Copy)]
 pub struct DrawnNumber {
     pub ok: bool,
     pub value: usize,
@@ -264,7 +264,7 @@ pub struct DrawnNumber {
 }
 
 // Likewise a float.
-#[derive(Drop)]
+#[derive(Clone, Copy)]
 pub struct DrawnReal {
     pub ok: bool,
     pub value: f64,
@@ -272,7 +272,7 @@ pub struct DrawnReal {
 }
 
 // Likewise a side, true being the first.
-#[derive(Drop)]
+#[derive(Clone, Copy)]
 pub struct DrawnSide {
     pub ok: bool,
     pub value: bool,

@@ -10,21 +10,21 @@ use answer::Refusal;
 use tree::Verdict;
 
 // The rate of a branch, or why the call is turned back.
-#[derive(Drop)]
+#[derive(Clone, Copy)]
 pub enum Rate {
     At(f64),
     Refused(Refusal),
 }
 
 // Whether a value was stored, or why the call is turned back.
-#[derive(Drop)]
+#[derive(Clone, Copy)]
 pub enum Stored {
     Is(bool),
     Refused(Refusal),
 }
 
 // Whether sigma was stored, and sigma after the call.
-#[derive(Drop)]
+#[derive(Clone, Copy)]
 pub struct SigmaSet {
     pub stored: Stored,
     pub sigma: f64,

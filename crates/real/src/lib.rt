@@ -16,14 +16,14 @@ const INFINITY_BITS: u64 = 0x7ff0_0000_0000_0000;
 const NAN_BITS: u64 = 0x7ff8_0000_0000_0000;
 
 // An age in whole thousandths, or none: negative, not finite, a NaN, or 2^43 or more.
-#[derive(Drop)]
+#[derive(Clone, Copy)]
 pub enum Printed {
     Thousandths(u64),
     Outside,
 }
 
 // A float that may be missing.
-#[derive(Drop)]
+#[derive(Clone, Copy)]
 pub enum Optional {
     Missing,
     Given(f64),

@@ -35,7 +35,7 @@ const LARGEST_ALLOWANCE: u64 = 65535;
 pub const NO_RECORD: u64 = 3;
 
 // What every call on a tree is given beside the tree's slices: the root, the generator and the allowance.
-#[derive(Drop)]
+#[derive(Clone, Copy)]
 pub struct Given {
     pub root: usize,
     pub random: Random,
@@ -43,7 +43,7 @@ pub struct Given {
 }
 
 // Words 8 to 12: the answer code, the draws made, the kind and two values.
-#[derive(Drop)]
+#[derive(Clone, Copy)]
 pub struct Reply {
     pub code: u64,
     pub draws: u64,

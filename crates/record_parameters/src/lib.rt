@@ -20,7 +20,7 @@ use scales::{OptionalScaled, Scaled, SpeciationScaled};
 use speciation::{Density, Speciation};
 
 // The field of a process that a call scales, if its number names one.
-#[derive(Drop)]
+#[derive(Clone, Copy)]
 pub enum Choice {
     Of(Field),
     Nothing,

@@ -101,7 +101,7 @@ fn answer_state(
 }
 
 // What comes of a try to answer a file in lent slices: how long the answer is, or that they have no room for its tree.
-#[derive(Drop)]
+#[derive(Clone, Copy)]
 enum Tried {
     Answered(usize),
     NoRoom,

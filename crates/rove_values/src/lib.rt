@@ -15,7 +15,7 @@ use real::Optional;
 use record::{NO_RECORD, Reply};
 
 // The move of a number, if it is one's.
-#[derive(Drop)]
+#[derive(Clone, Copy)]
 enum Named {
     Is(Move),
     Nothing,

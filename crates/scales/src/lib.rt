@@ -17,7 +17,7 @@ use speciation::Speciation;
 const LARGEST: u64 = 0x7fef_ffff_ffff_ffff;
 
 // An answer, with the value and the generator after the call.
-#[derive(Drop)]
+#[derive(Clone, Copy)]
 pub struct Scaled {
     pub proposal: Proposal,
     pub value: f64,
@@ -25,7 +25,7 @@ pub struct Scaled {
 }
 
 // Likewise with a value that may be missing.
-#[derive(Drop)]
+#[derive(Clone, Copy)]
 pub struct OptionalScaled {
     pub proposal: Proposal,
     pub value: Optional,
@@ -33,7 +33,7 @@ pub struct OptionalScaled {
 }
 
 // Likewise with the speciation state.
-#[derive(Drop)]
+#[derive(Clone, Copy)]
 pub struct SpeciationScaled {
     pub proposal: Proposal,
     pub speciation: Speciation,

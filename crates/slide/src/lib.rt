@@ -25,7 +25,7 @@ use tree::Verdict;
 const MOST_PLACES: usize = 8190;
 
 // The node of a slide, the two uniforms of its step, and the draws made.
-#[derive(Drop)]
+#[derive(Clone, Copy)]
 pub struct SlideNode {
     pub node: usize,
     pub first: f64,
@@ -34,21 +34,21 @@ pub struct SlideNode {
 }
 
 // A node with its uniforms, or a refusal.
-#[derive(Drop)]
+#[derive(Clone, Copy)]
 pub enum Begun {
     Node(SlideNode),
     Refused(Refusal),
 }
 
 // The answer of the first call, and the generator after it; after a refusal, the generator as it came.
-#[derive(Drop)]
+#[derive(Clone, Copy)]
 pub struct Started {
     pub answer: Begun,
     pub random: Random,
 }
 
 // A node, two uniforms and the supply after them. Where more draws are needed than are left, `ok` is false and the supply is as it came.
-#[derive(Drop)]
+#[derive(Clone, Copy)]
 struct DrawnStart {
     ok: bool,
     node: usize,

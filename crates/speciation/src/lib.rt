@@ -11,7 +11,7 @@ use answer::Refusal;
 use tree::Verdict;
 
 // The live parameters: Yule's birth rate; or of a birth–death process the difference of birth and death rates, and the relative death rate.
-#[derive(Drop)]
+#[derive(Clone, Copy)]
 pub enum Speciation {
     Yule(f64),
     BirthDeath(f64, f64),
@@ -19,7 +19,7 @@ pub enum Speciation {
 
 // The terms of a Yule density: the number of tips less 1, the rate, and the rate times the total of heights. Its logarithm is the first times
 // the logarithm of the second, less the third.
-#[derive(Drop)]
+#[derive(Clone, Copy)]
 pub enum Density {
     MinusInfinity,
     Terms(usize, f64, f64),

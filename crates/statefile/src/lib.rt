@@ -10,14 +10,14 @@ use forms::{Four, Kind, Named, Pair, Words};
 use text::Number;
 
 // What is drawn from: the draws allowed, and the generator's words.
-#[derive(Drop)]
+#[derive(Clone, Copy)]
 pub struct Supplied {
     pub draws: u32,
     pub words: Words,
 }
 
 // The move that is asked for, with its node and its tuning, or its step; 0 where it has none.
-#[derive(Drop)]
+#[derive(Clone, Copy)]
 pub struct Asked {
     pub kind: Kind,
     pub node: usize,
@@ -25,7 +25,7 @@ pub struct Asked {
 }
 
 // What stands before the tree.
-#[derive(Drop)]
+#[derive(Clone, Copy)]
 pub struct Head {
     pub supplied: Supplied,
     pub asked: Asked,
@@ -33,35 +33,35 @@ pub struct Head {
 }
 
 // Draws and generator and where their lines end, or the first of them that is not of its form.
-#[derive(Drop)]
+#[derive(Clone, Copy)]
 pub enum SuppliedRead {
     Read(Supplied, usize),
     Wrong(usize),
 }
 
 // The move and where its lines end, or the first of them that is not of its form.
-#[derive(Drop)]
+#[derive(Clone, Copy)]
 pub enum AskedRead {
     Read(Asked, usize),
     Wrong(usize),
 }
 
 // The lines before the tree and where they end, or the first that is not of its form.
-#[derive(Drop)]
+#[derive(Clone, Copy)]
 pub enum HeadRead {
     Read(Head, usize),
     Wrong(usize),
 }
 
 // Where lines of one form end, or the first that is not of it.
-#[derive(Drop)]
+#[derive(Clone, Copy)]
 pub enum LinesRead {
     Upto(usize),
     Wrong(usize),
 }
 
 // What stands before the tree, which is in the lent slices; or the first line that is not of its form.
-#[derive(Drop)]
+#[derive(Clone, Copy)]
 pub enum FileRead {
     Read(Head),
     Wrong(usize),

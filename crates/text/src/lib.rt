@@ -8,14 +8,14 @@ ghost use Rattle.text.specs.Rules.{literal, word, decimal, decimal_after, is_dec
 ghost use Rattle.text.specs.Places.{placed, numbered, DigitValues};
 
 // Where a fixed text ends, if it stands there.
-#[derive(Drop)]
+#[derive(Clone, Copy)]
 pub enum Place {
     At(usize),
     Missing,
 }
 
 // A number and where it ends, if one stands there.
-#[derive(Drop)]
+#[derive(Clone, Copy)]
 pub enum Number {
     Value(u64, usize),
     Malformed,

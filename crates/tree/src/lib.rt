@@ -12,14 +12,14 @@ ghost use Rattle.tree.specs.Given.{scan_of, shaping_of, dates_in, tree_of, new_g
 use answer::Refusal;
 
 // In order, or why not.
-#[derive(Drop)]
+#[derive(Clone, Copy)]
 pub enum Verdict {
     Fine,
     Refused(Refusal),
 }
 
 // The root, or why there is none.
-#[derive(Drop)]
+#[derive(Clone, Copy)]
 pub enum Rooted {
     Root(usize),
     Refused(Refusal),

@@ -24,7 +24,7 @@ use random::{DrawnNumber, Random, Supply};
 use tree::Verdict;
 
 // The ranges of the new and the old branch, and whether the move is declined.
-#[derive(Drop)]
+#[derive(Clone, Copy)]
 struct Ranges {
     declined: bool,
     new: f64,
