@@ -50,6 +50,7 @@ pub enum Outcome {
     Malformed(usize),
 }
 
+#[tactic(auto, using(crate::proofs::ReplayLaws::compare_laws))]
 fn compare(given: &[u8], expected: &[u8]) -> Compared
     ensures { result ≡ compared 0 given.now expected.now }
 {
@@ -77,6 +78,7 @@ fn answer_room() -> [u8; 131136]
 }
 
 // A file's answer beside the one that is expected.
+#[tactic(auto, using(crate::proofs::ReplayLaws::file_laws))]
 fn replay_file(file: &[u8], expected: &[u8]) -> Compared
     ensures { result ≡ compared 0 (within 131136 (file_reply 131072 file.now)) expected.now }
 {
@@ -86,6 +88,7 @@ fn replay_file(file: &[u8], expected: &[u8]) -> Compared
 }
 
 // A text after a line with its key and its length, and a byte 10 after it.
+#[tactic(auto, using(crate::proofs::ReplayLaws::text_laws))]
 fn read_text(s: &[u8], at: usize, key: &[u8]) -> Span
     ensures result_value { texted s.now result ≡ counted key.now (drop at s.now) }
     ensures inside { Inside s.now result }
@@ -108,6 +111,7 @@ fn read_text(s: &[u8], at: usize, key: &[u8]) -> Span
 }
 
 // The case from a place of the data on.
+#[tactic(auto, using(crate::proofs::ReplayLaws::place_laws, crate::proofs::ReplayLaws::case_laws))]
 fn replay_case(s: &[u8], at: usize) -> Step
     ensures { stepped s.now result ≡ replay_case (drop at s.now) }
 {
@@ -124,6 +128,7 @@ fn replay_case(s: &[u8], at: usize) -> Step
 }
 
 // So many cases from a place of the data on, and nothing after them.
+#[tactic(auto, using(crate::proofs::ReplayLaws::cases_laws))]
 fn replay_cases(s: &[u8], at: usize, count: usize) -> Outcome
     ensures { result ≡ outcome count 0 (drop at s.now) }
 {
@@ -149,6 +154,7 @@ fn replay_cases(s: &[u8], at: usize, count: usize) -> Outcome
     Outcome::Alike(count)
 }
 
+#[tactic(auto, using(crate::proofs::ReplayLaws::all_laws))]
 fn replay(s: &[u8]) -> Outcome
     ensures { result ≡ replayed s.now }
 {
