@@ -1,6 +1,6 @@
 // The functions that C and Rust hosts call with a tree in memory: its generator, `new`, `validate` and `postorder`, and the seven moves. Each takes
 // the words of a record (crate record) and then its slices, and returns the answer code: 0 done, 1 declined, 2 refused, 3 where there are not enough
-// words for a record, which changes nothing. None has a `requires`. include/rove.h declares them for C. Assumes nothing.
+// words for a record, which changes nothing. None has a `requires`. Crate rove_c exports them, and include/rove.h declares them for C. Assumes nothing.
 #![tactic(auto)]
 
 ghost use Rattle.std.specs.Prelude.{◌≡◌, ◌≤◌, length};
@@ -16,8 +16,7 @@ use tree::Rooted;
 // ---- the generator
 
 // The generator of a seed, into words 0 to 3.
-#[unsafe(no_mangle)]
-pub extern "C" fn rove_seed(words: &mut [u64], seed: u64) -> u64
+pub fn rove_seed(words: &mut [u64], seed: u64) -> u64
     ensures { written result words.new ≡ seed_exported seed words.old }
 {
     if record::is_record(words) {
@@ -28,8 +27,7 @@ pub extern "C" fn rove_seed(words: &mut [u64], seed: u64) -> u64
 }
 
 // One draw.
-#[unsafe(no_mangle)]
-pub extern "C" fn rove_next_u64(words: &mut [u64]) -> u64
+pub fn rove_next_u64(words: &mut [u64]) -> u64
     ensures { written result words.new ≡ next_exported words.old }
 {
     if record::is_record(words) {
@@ -59,8 +57,7 @@ fn put_below(words: &mut [u64], d: DrawnBelow) -> u64
 }
 
 // A number below word 6.
-#[unsafe(no_mangle)]
-pub extern "C" fn rove_below(words: &mut [u64]) -> u64
+pub fn rove_below(words: &mut [u64]) -> u64
     ensures { written result words.new ≡ below_exported words.old }
 {
     if record::is_record(words) {
@@ -88,13 +85,7 @@ fn put_rooted(words: &mut [u64], rooted: Rooted) -> u64
 }
 
 // `Tree::new`: the parents and the root of the pairs.
-#[unsafe(no_mangle)]
-pub extern "C" fn rove_new(
-    words: &mut [u64],
-    pairs: &[u16],
-    heights: &[f64],
-    parents: &mut [u16],
-) -> u64
+pub fn rove_new(words: &mut [u64], pairs: &[u16], heights: &[f64], parents: &mut [u16]) -> u64
     ensures { filled (written result words.new) parents.new ≡ new_exported pairs.now heights.now parents.old words.old }
 {
     if record::is_record(words) {
@@ -104,13 +95,7 @@ pub extern "C" fn rove_new(
     NO_RECORD
 }
 
-#[unsafe(no_mangle)]
-pub extern "C" fn rove_validate(
-    words: &mut [u64],
-    pairs: &[u16],
-    parents: &[u16],
-    heights: &[f64],
-) -> u64
+pub fn rove_validate(words: &mut [u64], pairs: &[u16], parents: &[u16], heights: &[f64]) -> u64
     ensures { written result words.new ≡ validate_exported pairs.now parents.now heights.now words.old }
 {
     if record::is_record(words) {
@@ -121,8 +106,7 @@ pub extern "C" fn rove_validate(
 }
 
 // Every node with both children before their parent, into `order`.
-#[unsafe(no_mangle)]
-pub extern "C" fn rove_postorder(
+pub fn rove_postorder(
     words: &mut [u64],
     pairs: &[u16],
     parents: &[u16],
@@ -140,8 +124,7 @@ pub extern "C" fn rove_postorder(
 
 // ---- the moves
 
-#[unsafe(no_mangle)]
-pub extern "C" fn rove_node_height(
+pub fn rove_node_height(
     words: &mut [u64],
     pairs: &[u16],
     parents: &[u16],
@@ -190,13 +173,7 @@ pub fn put_started(words: &mut [u64], started: Started) -> u64
 }
 
 // The first call of SubtreeSlide: a node into word 6, and two uniforms.
-#[unsafe(no_mangle)]
-pub extern "C" fn rove_slide_start(
-    words: &mut [u64],
-    pairs: &[u16],
-    parents: &[u16],
-    heights: &[f64],
-) -> u64
+pub fn rove_slide_start(words: &mut [u64], pairs: &[u16], parents: &[u16], heights: &[f64]) -> u64
     ensures { written result words.new ≡ start_exported pairs.now parents.now heights.now words.old }
 {
     if record::is_record(words) {
@@ -216,8 +193,7 @@ pub extern "C" fn rove_slide_start(
 }
 
 // The second call of SubtreeSlide, with the node in word 6 and the step in word 7.
-#[unsafe(no_mangle)]
-pub extern "C" fn rove_subtree_slide(
+pub fn rove_subtree_slide(
     words: &mut [u64],
     pairs: &mut [u16],
     parents: &mut [u16],
@@ -245,8 +221,7 @@ pub extern "C" fn rove_subtree_slide(
     NO_RECORD
 }
 
-#[unsafe(no_mangle)]
-pub extern "C" fn rove_narrow_exchange(
+pub fn rove_narrow_exchange(
     words: &mut [u64],
     pairs: &mut [u16],
     parents: &mut [u16],
@@ -270,8 +245,7 @@ pub extern "C" fn rove_narrow_exchange(
     NO_RECORD
 }
 
-#[unsafe(no_mangle)]
-pub extern "C" fn rove_wide_exchange(
+pub fn rove_wide_exchange(
     words: &mut [u64],
     pairs: &mut [u16],
     parents: &mut [u16],
@@ -295,8 +269,7 @@ pub extern "C" fn rove_wide_exchange(
     NO_RECORD
 }
 
-#[unsafe(no_mangle)]
-pub extern "C" fn rove_wilson_balding(
+pub fn rove_wilson_balding(
     words: &mut [u64],
     pairs: &mut [u16],
     parents: &mut [u16],
@@ -321,8 +294,7 @@ pub extern "C" fn rove_wilson_balding(
 }
 
 // With the tuning in word 7.
-#[unsafe(no_mangle)]
-pub extern "C" fn rove_root_scale(
+pub fn rove_root_scale(
     words: &mut [u64],
     pairs: &[u16],
     parents: &[u16],
@@ -349,8 +321,7 @@ pub extern "C" fn rove_root_scale(
 }
 
 // With the tuning in word 7.
-#[unsafe(no_mangle)]
-pub extern "C" fn rove_tree_scale(
+pub fn rove_tree_scale(
     words: &mut [u64],
     pairs: &[u16],
     parents: &[u16],

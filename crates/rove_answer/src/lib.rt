@@ -1,4 +1,5 @@
-// The function that C and Rust hosts call with a whole state file. It has no `requires`. include/rove.h declares it for C. Assumes nothing.
+// The function that C and Rust hosts call with a whole state file. It has no `requires`. Crate rove_c exports it, and include/rove.h declares it for
+// C. Assumes nothing.
 #![tactic(auto)]
 
 ghost use Rattle.std.specs.Prelude.{◌≡◌};
@@ -10,8 +11,7 @@ const LONGEST: usize = 131072;
 
 // The answer to a file of up to 131,072 bytes, as the listing prints it of shorter ones, at the start of `answer`, and how long it is; 0, with nothing written,
 // where `answer` is too short.
-#[unsafe(no_mangle)]
-pub extern "C" fn rove_answer(file: &[u8], answer: &mut [u8]) -> usize
+pub fn rove_answer(file: &[u8], answer: &mut [u8]) -> usize
     ensures { delivery result answer.new ≡ delivered answer.old (file_reply 131072 file.now) }
 {
     respond::respond(file, LONGEST, answer)

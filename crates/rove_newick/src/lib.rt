@@ -1,6 +1,6 @@
 // The functions that C and Rust hosts call for Newick copies: the text of a tree into a lent slice, and back into pairs and ages. Each takes the words of a
 // record (crate record) and then its slices, and returns the answer code: 0 done, 2 refused, 3 where there are not enough words for a record, which changes
-// nothing. Neither has a `requires`. Assumes nothing.
+// nothing. Neither has a `requires`. Crates rove_c and rove_newick_c export them, and include/rove.h declares them for C. Assumes nothing.
 #![tactic(auto)]
 
 ghost use Rattle.std.specs.Prelude.{◌≡◌, ◌≤◌, length};
@@ -62,8 +62,7 @@ fn put_taken(words: &mut [u64], taken: Taken) -> u64
 }
 
 // The Newick text of the tree, whose root is in word 4, at the start of `out`; its length goes into word 11.
-#[unsafe(no_mangle)]
-pub extern "C" fn rove_write_newick(
+pub fn rove_write_newick(
     words: &mut [u64],
     pairs: &[u16],
     parents: &[u16],
@@ -80,13 +79,7 @@ pub extern "C" fn rove_write_newick(
 }
 
 // What a Newick text says, at the start of `pairs` and of `ages`; the number of nodes goes into word 11.
-#[unsafe(no_mangle)]
-pub extern "C" fn rove_read_newick(
-    words: &mut [u64],
-    text: &[u8],
-    pairs: &mut [u16],
-    ages: &mut [u64],
-) -> u64
+pub fn rove_read_newick(words: &mut [u64], text: &[u8], pairs: &mut [u16], ages: &mut [u64]) -> u64
     ensures { read_left (written result words.new) pairs.new ages.new ≡ read_exported text.now pairs.old ages.old words.old }
 {
     if record::is_record(words) {

@@ -1,7 +1,7 @@
 // The functions that C and Rust hosts call for what moves beside a tree, and for what is asked of one: the proposals on parameters, the relaxed clock,
 // priors, the Yule density, tip dating and clades. Each takes the words of a record (crate record) and then its slices, with parameters in words 13 to 31
 // (crate record_parameters), and returns the answer code: 0 done, 1 declined, 2 refused, 3 where there are not enough words for a record, which changes
-// nothing. None has a `requires`. Assumes nothing.
+// nothing. None has a `requires`. Crate rove_c exports them, and include/rove.h declares them for C. Assumes nothing.
 #![tactic(auto)]
 
 ghost use Rattle.std.specs.Prelude.{◌≡◌, ◌≤◌, length};
@@ -17,8 +17,7 @@ use record_parameters::Choice;
 // ---- proposals
 
 // The value in word 13, up to the upper end in word 14.
-#[unsafe(no_mangle)]
-pub extern "C" fn rove_scale(words: &mut [u64]) -> u64
+pub fn rove_scale(words: &mut [u64]) -> u64
     ensures { written result words.new ≡ scale_exported words.old }
 {
     if record::is_record(words) {
@@ -33,8 +32,7 @@ pub extern "C" fn rove_scale(words: &mut [u64]) -> u64
     NO_RECORD
 }
 
-#[unsafe(no_mangle)]
-pub extern "C" fn rove_clock_rate_scale(words: &mut [u64]) -> u64
+pub fn rove_clock_rate_scale(words: &mut [u64]) -> u64
     ensures { written result words.new ≡ clock_rate_exported words.old }
 {
     if record::is_record(words) {
@@ -49,8 +47,7 @@ pub extern "C" fn rove_clock_rate_scale(words: &mut [u64]) -> u64
 }
 
 // Up to the upper end in word 16.
-#[unsafe(no_mangle)]
-pub extern "C" fn rove_birth_difference_scale(words: &mut [u64]) -> u64
+pub fn rove_birth_difference_scale(words: &mut [u64]) -> u64
     ensures { written result words.new ≡ birth_difference_exported words.old }
 {
     if record::is_record(words) {
@@ -66,8 +63,7 @@ pub extern "C" fn rove_birth_difference_scale(words: &mut [u64]) -> u64
 }
 
 // Up to the upper end in word 16.
-#[unsafe(no_mangle)]
-pub extern "C" fn rove_birth_rate_scale(words: &mut [u64]) -> u64
+pub fn rove_birth_rate_scale(words: &mut [u64]) -> u64
     ensures { written result words.new ≡ birth_rate_exported words.old }
 {
     if record::is_record(words) {
@@ -82,8 +78,7 @@ pub extern "C" fn rove_birth_rate_scale(words: &mut [u64]) -> u64
     NO_RECORD
 }
 
-#[unsafe(no_mangle)]
-pub extern "C" fn rove_relative_death_scale(words: &mut [u64]) -> u64
+pub fn rove_relative_death_scale(words: &mut [u64]) -> u64
     ensures { written result words.new ≡ relative_death_exported words.old }
 {
     if record::is_record(words) {
@@ -98,8 +93,7 @@ pub extern "C" fn rove_relative_death_scale(words: &mut [u64]) -> u64
 }
 
 // Of the sigma in word 14, if word 13 says that there is a clock.
-#[unsafe(no_mangle)]
-pub extern "C" fn rove_clock_sigma_scale(words: &mut [u64], rates: &[f64]) -> u64
+pub fn rove_clock_sigma_scale(words: &mut [u64], rates: &[f64]) -> u64
     ensures { written result words.new ≡ clock_sigma_exported rates.now words.old }
 {
     if record::is_record(words) {
@@ -114,8 +108,7 @@ pub extern "C" fn rove_clock_sigma_scale(words: &mut [u64], rates: &[f64]) -> u6
 }
 
 // Of one of the rates.
-#[unsafe(no_mangle)]
-pub extern "C" fn rove_branch_rate_scale(words: &mut [u64], rates: &mut [f64]) -> u64
+pub fn rove_branch_rate_scale(words: &mut [u64], rates: &mut [f64]) -> u64
     ensures { lent (written result words.new) rates.new ≡ branch_rate_scale_exported rates.old words.old }
 {
     if record::is_record(words) {
@@ -147,8 +140,7 @@ fn field_scale(field: Field, words: &mut [u64]) -> u64
 }
 
 // Of the field that word 6 names.
-#[unsafe(no_mangle)]
-pub extern "C" fn rove_fbd_scale(words: &mut [u64]) -> u64
+pub fn rove_fbd_scale(words: &mut [u64]) -> u64
     ensures { written result words.new ≡ fbd_exported words.old }
 {
     if record::is_record(words) {
@@ -167,8 +159,7 @@ pub extern "C" fn rove_fbd_scale(words: &mut [u64]) -> u64
 // ---- the clock: sigma in word 14
 
 // Whether the rates are a clock.
-#[unsafe(no_mangle)]
-pub extern "C" fn rove_clock(words: &mut [u64], rates: &[f64]) -> u64
+pub fn rove_clock(words: &mut [u64], rates: &[f64]) -> u64
     ensures { written result words.new ≡ clock_exported rates.now words.old }
 {
     if record::is_record(words) {
@@ -179,8 +170,7 @@ pub extern "C" fn rove_clock(words: &mut [u64], rates: &[f64]) -> u64
 }
 
 // The rate of the branch of the node in word 6, with the root in word 4.
-#[unsafe(no_mangle)]
-pub extern "C" fn rove_branch_rate(words: &mut [u64], rates: &[f64]) -> u64
+pub fn rove_branch_rate(words: &mut [u64], rates: &[f64]) -> u64
     ensures { written result words.new ≡ branch_rate_exported rates.now words.old }
 {
     if record::is_record(words) {
@@ -192,8 +182,7 @@ pub extern "C" fn rove_branch_rate(words: &mut [u64], rates: &[f64]) -> u64
 }
 
 // The new sigma is in word 15.
-#[unsafe(no_mangle)]
-pub extern "C" fn rove_set_sigma(words: &mut [u64], rates: &[f64]) -> u64
+pub fn rove_set_sigma(words: &mut [u64], rates: &[f64]) -> u64
     ensures { written result words.new ≡ set_sigma_exported rates.now words.old }
 {
     if record::is_record(words) {
@@ -205,8 +194,7 @@ pub extern "C" fn rove_set_sigma(words: &mut [u64], rates: &[f64]) -> u64
 }
 
 // The index is in word 6, and the new rate in word 15.
-#[unsafe(no_mangle)]
-pub extern "C" fn rove_set_rate(words: &mut [u64], rates: &mut [f64]) -> u64
+pub fn rove_set_rate(words: &mut [u64], rates: &mut [f64]) -> u64
     ensures { lent (written result words.new) rates.new ≡ set_rate_exported rates.old words.old }
 {
     if record::is_record(words) {
@@ -221,8 +209,7 @@ pub extern "C" fn rove_set_rate(words: &mut [u64], rates: &mut [f64]) -> u64
 
 // ---- priors and density
 
-#[unsafe(no_mangle)]
-pub extern "C" fn rove_validate_priors(words: &mut [u64]) -> u64
+pub fn rove_validate_priors(words: &mut [u64]) -> u64
     ensures { written result words.new ≡ priors_exported words.old }
 {
     if record::is_record(words) {
@@ -233,8 +220,7 @@ pub extern "C" fn rove_validate_priors(words: &mut [u64]) -> u64
 }
 
 // At the rate in word 13.
-#[unsafe(no_mangle)]
-pub extern "C" fn rove_yule_log_density(
+pub fn rove_yule_log_density(
     words: &mut [u64],
     pairs: &[u16],
     parents: &[u16],
@@ -254,8 +240,7 @@ pub extern "C" fn rove_yule_log_density(
 // ---- tip dating, with the ages of the tips in two slices
 
 // The ages by themselves, for a tree of as many nodes as word 6 says.
-#[unsafe(no_mangle)]
-pub extern "C" fn rove_validate_ages(words: &mut [u64], minima: &[f64], maxima: &[f64]) -> u64
+pub fn rove_validate_ages(words: &mut [u64], minima: &[f64], maxima: &[f64]) -> u64
     ensures { written result words.new ≡ table_exported minima.now maxima.now words.old }
 {
     if record::is_record(words) {
@@ -267,8 +252,7 @@ pub extern "C" fn rove_validate_ages(words: &mut [u64], minima: &[f64], maxima: 
     NO_RECORD
 }
 
-#[unsafe(no_mangle)]
-pub extern "C" fn rove_initialize(
+pub fn rove_initialize(
     words: &mut [u64],
     pairs: &[u16],
     parents: &[u16],
@@ -287,8 +271,7 @@ pub extern "C" fn rove_initialize(
     NO_RECORD
 }
 
-#[unsafe(no_mangle)]
-pub extern "C" fn rove_propose_age(
+pub fn rove_propose_age(
     words: &mut [u64],
     pairs: &[u16],
     parents: &[u16],
@@ -313,8 +296,7 @@ pub extern "C" fn rove_propose_age(
 
 // ---- clades: a byte for each tip, not 0 where it is in the set
 
-#[unsafe(no_mangle)]
-pub extern "C" fn rove_is_monophyletic(
+pub fn rove_is_monophyletic(
     words: &mut [u64],
     pairs: &[u16],
     parents: &[u16],
@@ -331,8 +313,7 @@ pub extern "C" fn rove_is_monophyletic(
     NO_RECORD
 }
 
-#[unsafe(no_mangle)]
-pub extern "C" fn rove_clade_age(
+pub fn rove_clade_age(
     words: &mut [u64],
     pairs: &[u16],
     parents: &[u16],

@@ -1,8 +1,8 @@
 // The moves for a host whose tree was accepted and has since been changed by moves alone: as those of `rove`, with the same record and answer code, but the tree is
 // not validated again. Parameters and allowance are checked. Where the slices are an accepted tree, each leaves what the checked function leaves. What a move leaves
 // is accepted again, but for TreeScale on a tree with a tip that is not at zero: a tip may then stand above its parent, and a checked call or `rove_validate` comes
-// next. On any other slices each ends, reads and writes nothing outside them, and is harmless (calls/Harmless). None has a `requires`. include/rove.h declares them
-// for C. Assumes nothing.
+// next. On any other slices each ends, reads and writes nothing outside them, and is harmless (calls/Harmless). None has a `requires`. Crate rove_c exports
+// them, and include/rove.h declares them for C. Assumes nothing.
 #![tactic(auto)]
 
 ghost use Rattle.std.specs.Prelude.{◌≡◌};
@@ -11,8 +11,7 @@ ghost use Rattle.record.specs.Record.{written, node_in, tuning_in};
 ghost use Rattle.rove.specs.Exports.{left};
 ghost use Rattle.rove_unvalidated.specs.Unvalidated.{UnvalidatedExport, unvalidated_start_exported};
 
-#[unsafe(no_mangle)]
-pub extern "C" fn rove_node_height_unvalidated(
+pub fn rove_node_height_unvalidated(
     words: &mut [u64],
     pairs: &[u16],
     parents: &[u16],
@@ -37,8 +36,7 @@ pub extern "C" fn rove_node_height_unvalidated(
 }
 
 // The first call of SubtreeSlide: a node into word 6, and two uniforms.
-#[unsafe(no_mangle)]
-pub extern "C" fn rove_slide_start_unvalidated(
+pub fn rove_slide_start_unvalidated(
     words: &mut [u64],
     pairs: &[u16],
     parents: &[u16],
@@ -63,8 +61,7 @@ pub extern "C" fn rove_slide_start_unvalidated(
 }
 
 // The second call of SubtreeSlide, with the node in word 6 and the step in word 7.
-#[unsafe(no_mangle)]
-pub extern "C" fn rove_subtree_slide_unvalidated(
+pub fn rove_subtree_slide_unvalidated(
     words: &mut [u64],
     pairs: &mut [u16],
     parents: &mut [u16],
@@ -92,8 +89,7 @@ pub extern "C" fn rove_subtree_slide_unvalidated(
     record::put_unready(words)
 }
 
-#[unsafe(no_mangle)]
-pub extern "C" fn rove_narrow_exchange_unvalidated(
+pub fn rove_narrow_exchange_unvalidated(
     words: &mut [u64],
     pairs: &mut [u16],
     parents: &mut [u16],
@@ -117,8 +113,7 @@ pub extern "C" fn rove_narrow_exchange_unvalidated(
     record::put_unready(words)
 }
 
-#[unsafe(no_mangle)]
-pub extern "C" fn rove_wide_exchange_unvalidated(
+pub fn rove_wide_exchange_unvalidated(
     words: &mut [u64],
     pairs: &mut [u16],
     parents: &mut [u16],
@@ -142,8 +137,7 @@ pub extern "C" fn rove_wide_exchange_unvalidated(
     record::put_unready(words)
 }
 
-#[unsafe(no_mangle)]
-pub extern "C" fn rove_wilson_balding_unvalidated(
+pub fn rove_wilson_balding_unvalidated(
     words: &mut [u64],
     pairs: &mut [u16],
     parents: &mut [u16],
@@ -168,8 +162,7 @@ pub extern "C" fn rove_wilson_balding_unvalidated(
 }
 
 // With the tuning in word 7.
-#[unsafe(no_mangle)]
-pub extern "C" fn rove_root_scale_unvalidated(
+pub fn rove_root_scale_unvalidated(
     words: &mut [u64],
     pairs: &[u16],
     parents: &[u16],
@@ -196,8 +189,7 @@ pub extern "C" fn rove_root_scale_unvalidated(
 }
 
 // With the tuning in word 7.
-#[unsafe(no_mangle)]
-pub extern "C" fn rove_tree_scale_unvalidated(
+pub fn rove_tree_scale_unvalidated(
     words: &mut [u64],
     pairs: &[u16],
     parents: &[u16],

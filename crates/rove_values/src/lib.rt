@@ -1,6 +1,7 @@
 // The functions that C and Rust hosts call for single values of the port: a uniform and a coin, the factor of a scale, the table of moves, whether a move's
 // parameter is estimated, and the lengths of branches. Each takes the words of a record (crate record) and then its slices, and returns the answer code:
-// 0 done, 1 declined, 2 refused, 3 where there are not enough words for a record, which changes nothing. None has a `requires`. Assumes nothing.
+// 0 done, 1 declined, 2 refused, 3 where there are not enough words for a record, which changes nothing. None has a `requires`. Crate rove_c exports them, and
+// include/rove.h declares them for C. Assumes nothing.
 #![tactic(auto)]
 
 ghost use Rattle.std.specs.Prelude.{◌≡◌, ◌≤◌, length};
@@ -24,8 +25,7 @@ enum Named {
 // ---- the generator
 
 // One draw, as a float on [0, 1).
-#[unsafe(no_mangle)]
-pub extern "C" fn rove_uniform(words: &mut [u64]) -> u64
+pub fn rove_uniform(words: &mut [u64]) -> u64
     ensures { written result words.new ≡ uniform_exported words.old }
 {
     if record::is_record(words) {
@@ -38,8 +38,7 @@ pub extern "C" fn rove_uniform(words: &mut [u64]) -> u64
 }
 
 // One draw, as a side, 1 being the first.
-#[unsafe(no_mangle)]
-pub extern "C" fn rove_coin(words: &mut [u64]) -> u64
+pub fn rove_coin(words: &mut [u64]) -> u64
     ensures { written result words.new ≡ coin_exported words.old }
 {
     if record::is_record(words) {
@@ -52,8 +51,7 @@ pub extern "C" fn rove_coin(words: &mut [u64]) -> u64
 }
 
 // The factor of the tuning in word 7 and the uniform in word 13.
-#[unsafe(no_mangle)]
-pub extern "C" fn rove_scaler(words: &mut [u64]) -> u64
+pub fn rove_scaler(words: &mut [u64]) -> u64
     ensures { written result words.new ≡ scaler_exported words.old }
 {
     if record::is_record(words) {
@@ -136,8 +134,7 @@ fn put_tuning(words: &mut [u64], tuning: Optional) -> u64
 }
 
 // The tuning that the move starts with; declined for a move that has none.
-#[unsafe(no_mangle)]
-pub extern "C" fn rove_initial_tuning(words: &mut [u64]) -> u64
+pub fn rove_initial_tuning(words: &mut [u64]) -> u64
     ensures { written result words.new ≡ initial_tuning_exported words.old }
 {
     if record::is_record(words) {
@@ -153,8 +150,7 @@ pub extern "C" fn rove_initial_tuning(words: &mut [u64]) -> u64
     NO_RECORD
 }
 
-#[unsafe(no_mangle)]
-pub extern "C" fn rove_changes_fbd(words: &mut [u64]) -> u64
+pub fn rove_changes_fbd(words: &mut [u64]) -> u64
     ensures { written result words.new ≡ changes_fbd_exported words.old }
 {
     if record::is_record(words) {
@@ -170,8 +166,7 @@ pub extern "C" fn rove_changes_fbd(words: &mut [u64]) -> u64
     NO_RECORD
 }
 
-#[unsafe(no_mangle)]
-pub extern "C" fn rove_changes_tree(words: &mut [u64]) -> u64
+pub fn rove_changes_tree(words: &mut [u64]) -> u64
     ensures { written result words.new ≡ changes_tree_exported words.old }
 {
     if record::is_record(words) {
@@ -187,8 +182,7 @@ pub extern "C" fn rove_changes_tree(words: &mut [u64]) -> u64
     NO_RECORD
 }
 
-#[unsafe(no_mangle)]
-pub extern "C" fn rove_changes_topology(words: &mut [u64]) -> u64
+pub fn rove_changes_topology(words: &mut [u64]) -> u64
     ensures { written result words.new ≡ changes_topology_exported words.old }
 {
     if record::is_record(words) {
@@ -205,8 +199,7 @@ pub extern "C" fn rove_changes_topology(words: &mut [u64]) -> u64
 }
 
 // Whether the priors in words 18 to 28 estimate what the move changes.
-#[unsafe(no_mangle)]
-pub extern "C" fn rove_estimates(words: &mut [u64]) -> u64
+pub fn rove_estimates(words: &mut [u64]) -> u64
     ensures { written result words.new ≡ estimates_exported words.old }
 {
     if record::is_record(words) {
@@ -240,8 +233,7 @@ fn put_quantity(words: &mut [u64], quantity: Quantity) -> u64
 }
 
 // Of the branch above the node in word 6.
-#[unsafe(no_mangle)]
-pub extern "C" fn rove_branch_length(words: &mut [u64], parents: &[u16], heights: &[f64]) -> u64
+pub fn rove_branch_length(words: &mut [u64], parents: &[u16], heights: &[f64]) -> u64
     ensures { written result words.new ≡ branch_length_exported parents.now heights.now words.old }
 {
     if record::is_record(words) {
@@ -251,8 +243,7 @@ pub extern "C" fn rove_branch_length(words: &mut [u64], parents: &[u16], heights
     NO_RECORD
 }
 
-#[unsafe(no_mangle)]
-pub extern "C" fn rove_tree_length(words: &mut [u64], parents: &[u16], heights: &[f64]) -> u64
+pub fn rove_tree_length(words: &mut [u64], parents: &[u16], heights: &[f64]) -> u64
     ensures { written result words.new ≡ tree_length_exported parents.now heights.now words.old }
 {
     if record::is_record(words) {

@@ -1,4 +1,5 @@
 -- `speciation::are_present` meets its contract. Assumes nothing.
+use Rattle.std.specs.Prelude.{[]}
 use mathlib.Core.Path.{◌≡◌}
 use mathlib.Core.Bool.{true}
 use Prim.Native.Nat.{◌-◌, ◌/◌, ◌≤◌}

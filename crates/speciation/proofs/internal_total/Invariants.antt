@@ -1,4 +1,5 @@
 -- `speciation::internal_total` meets its contract. Assumes nothing.
+use Rattle.std.specs.Prelude.{[]}
 use mathlib.Core.Path.{◌≡◌}
 use Prim.Native.Nat.{◌+◌, ◌-◌, ◌/◌, ◌≤◌, ◌<◌}
 use lib.ListN.{length}

@@ -5,9 +5,9 @@ use cases::{Kind, StateFile};
 use std::io::Write;
 use std::process::{Command, Stdio};
 
-/// What the program prints for a file. It stands where `rt check listing` puts it.
+/// What the program prints for a file. It stands where `rt run` builds it.
 fn listed(file: &[u8]) -> String {
-    let program = concat!(env!("CARGO_MANIFEST_DIR"), "/../../../target/bin/listing");
+    let program = concat!(env!("CARGO_MANIFEST_DIR"), "/../../../crates/listing/out/listing");
     let mut listing = Command::new(program)
         .stdin(Stdio::piped())
         .stdout(Stdio::piped())

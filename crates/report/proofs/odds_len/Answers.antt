@@ -1,0 +1,19 @@
+-- `report::odds_len` meets its contract. Assumes nothing.
+use Rattle.report.proofs.CountLaws.{part_laws}
+use borrow.Author.Rules.{rules}
+use Rattle.report.proofs.odds_len.Goals as goal
+
+pub ratio_len-requires : goal.ratio_len-requires
+ratio_len-requires c = search (part_laws, rules)
+
+pub overflow_add-result : goal.overflow_add-result
+overflow_add-result c = search (part_laws, rules)
+
+pub decimal_len-requires : goal.decimal_len-requires
+decimal_len-requires c = search (part_laws, rules)
+
+pub overflow_add-result-2 : goal.overflow_add-result-2
+overflow_add-result-2 c = search (part_laws, rules)
+
+pub returns : goal.returns
+returns c = search (part_laws, rules)

@@ -1,0 +1,19 @@
+-- `statefile_text::put_move` meets its contract. Assumes nothing.
+use Rattle.statefile_text.proofs.PutLaws.{part_laws}
+use borrow.Author.Rules.{rules}
+use Rattle.statefile_text.proofs.put_move.Goals as goal
+
+pub put_text-value-requires : goal.put_text-value-requires
+put_text-value-requires c = search (part_laws, rules)
+
+pub put_name-end-requires : goal.put_name-end-requires
+put_name-end-requires c = search (part_laws, rules)
+
+pub put_byte-requires : goal.put_byte-requires
+put_byte-requires c = search (part_laws, rules)
+
+pub shape_of-out : goal.shape_of-out
+shape_of-out c = search (part_laws, rules)
+
+pub returns : goal.returns
+returns c = search (part_laws, rules)

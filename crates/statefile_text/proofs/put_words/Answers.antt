@@ -1,0 +1,19 @@
+-- `statefile_text::put_words` meets its contract. Assumes nothing.
+use Rattle.statefile_text.proofs.PutLaws.{part_laws}
+use borrow.Author.Rules.{rules}
+use Rattle.statefile_text.proofs.put_words.Goals as goal
+
+pub put_text-value-requires : goal.put_text-value-requires
+put_text-value-requires c = search (part_laws, rules)
+
+pub put_state-end-requires : goal.put_state-end-requires
+put_state-end-requires c = search (part_laws, rules)
+
+pub put_byte-requires : goal.put_byte-requires
+put_byte-requires c = search (part_laws, rules)
+
+pub shape_of-out : goal.shape_of-out
+shape_of-out c = search (part_laws, rules)
+
+pub returns : goal.returns
+returns c = search (part_laws, rules)

@@ -1,0 +1,13 @@
+-- `wilson::new_range` meets its contract. Assumes nothing.
+use borrow.Author.Rules.{rules}
+use Rattle.wilson.proofs.OntoLaws.{range_laws}
+use Rattle.wilson.proofs.new_range.Goals as goal
+
+pub parent-requires : goal.parent-requires
+parent-requires c = search (range_laws, rules)
+
+pub range-requires : goal.range-requires
+range-requires c = search (range_laws, rules)
+
+pub returns : goal.returns
+returns c = search (range_laws, rules)

@@ -1,0 +1,10 @@
+-- `wilson::wilson_balding` meets its contract. Assumes nothing.
+use borrow.Author.Rules.{rules}
+use Rattle.calls.specs.EntryLaws.{entry_laws}
+use Rattle.wilson.proofs.wilson_balding.Goals as goal
+
+pub returns-in-Refused : goal.returns-in-Refused
+returns-in-Refused c = search (entry_laws, rules)
+
+pub returns-in-Fine : goal.returns-in-Fine
+returns-in-Fine c = search (entry_laws, rules)
