@@ -1,189 +1,172 @@
-// What the programs write on standard output: text, numbers in decimal, words and floats by their bits, what calls answer, and what a slice holds.
-// Assumes nothing.
+// What the programs write: text, numbers in decimal, words and floats by their bits, what calls answer, and what a slice holds. Each function is
+// given where to write, and an error of the writer is its own. Assumes nothing.
 #![tactic(auto)]
 
 use answer::{Answer, Proposal, Ratio, Refusal};
-use libc::STDOUT_FILENO;
 use real::Optional;
+use std::io;
+use std::io::Write;
 use tree::Verdict;
 
-pub fn text(bytes: &[u8]) {
-    io::write_all(STDOUT_FILENO, bytes);
+pub fn text(out: &mut impl Write, bytes: &[u8]) -> io::Result<()> {
+    out.write_all(bytes)
 }
 
 // Between a call and its answer.
-pub fn colon() {
-    text(b": ");
+pub fn colon(out: &mut impl Write) -> io::Result<()> {
+    text(out, b": ")
 }
 
-pub fn end() {
-    text(b"\n");
+pub fn end(out: &mut impl Write) -> io::Result<()> {
+    text(out, b"\n")
 }
 
-pub fn number(n: u64) {
-    io::print_decimal(STDOUT_FILENO, n);
+pub fn number(out: &mut impl Write, n: u64) -> io::Result<()> {
+    write!(out, "{n}")
 }
 
 // A word in 16 hexadecimal digits.
-fn hex(n: u64) {
-    io::print_hex(STDOUT_FILENO, n, 16);
+fn hex(out: &mut impl Write, n: u64) -> io::Result<()> {
+    write!(out, "{n:016x}")
 }
 
 // The bits of a float, in the same way.
-pub fn bits(x: f64) {
-    hex(real::to_bits(x));
+pub fn bits(out: &mut impl Write, x: f64) -> io::Result<()> {
+    hex(out, real::to_bits(x))
 }
 
 // A float after a space.
-pub fn float(x: f64) {
-    text(b" ");
-    bits(x);
+pub fn float(out: &mut impl Write, x: f64) -> io::Result<()> {
+    text(out, b" ")?;
+    bits(out, x)
 }
 
 // All floats of a slice.
-pub fn floats(of: &[f64]) {
-    for k in 0..of.len() {
-        float(of[k]);
+pub fn floats(out: &mut impl Write, of: &[f64]) -> io::Result<()> {
+    for x in of {
+        float(out, *x)?;
     }
+    Ok(())
 }
 
 // A float after a space, or a dash where it is missing.
-pub fn optional(x: Optional) {
+pub fn optional(out: &mut impl Write, x: Optional) -> io::Result<()> {
     match x {
-        Optional::Missing => text(b" -"),
-        Optional::Given(value) => float(value),
+        Optional::Missing => text(out, b" -"),
+        Optional::Given(value) => float(out, value),
     }
 }
 
 // 1 after a space for what holds, else 0.
-pub fn flag(holds: bool) {
+pub fn flag(out: &mut impl Write, holds: bool) -> io::Result<()> {
     if holds {
-        text(b" 1");
+        text(out, b" 1")
     } else {
-        text(b" 0");
+        text(out, b" 0")
     }
 }
 
-// The words of a generator.
-pub fn state(s: [u64; 4]) {
-    text(b" state ");
-    hex(s[0]);
-    text(b",");
-    hex(s[1]);
-    text(b",");
-    hex(s[2]);
-    text(b",");
-    hex(s[3]);
+// The words of a generator, each in 16 hexadecimal digits.
+pub fn state(out: &mut impl Write, s: [u64; 4]) -> io::Result<()> {
+    let [a, b, c, d] = s;
+    write!(out, " state {a:016x},{b:016x},{c:016x},{d:016x}")
 }
 
-pub fn draws(count: u32) {
-    text(b" draws=");
-    number(count as u64);
+pub fn draws(out: &mut impl Write, count: u32) -> io::Result<()> {
+    write!(out, " draws={count}")
 }
 
 // The exponent of a scale, which is -1 at the least.
-fn exponent(k: i32) {
+fn exponent(out: &mut impl Write, k: i32) -> io::Result<()> {
     if k < 0 {
-        text(b"-1");
+        text(out, b"-1")
     } else {
-        number(k as u64);
+        number(out, k as u64)
     }
 }
 
-pub fn ratio(of: Ratio) {
-    text(b" ratio=");
+// A key before a float's bits.
+fn keyed(out: &mut impl Write, key: &[u8], x: f64) -> io::Result<()> {
+    text(out, key)?;
+    bits(out, x)
+}
+
+pub fn ratio(out: &mut impl Write, of: Ratio) -> io::Result<()> {
     match of {
-        Ratio::Even => text(b"even"),
-        Ratio::Counts(a, b) => {
-            text(b"counts,");
-            number(a as u64);
-            text(b",");
-            number(b as u64);
-        }
+        Ratio::Even => text(out, b" ratio=even"),
+        Ratio::Counts(a, b) => write!(out, " ratio=counts,{a},{b}"),
         Ratio::Lengths(a, b) => {
-            text(b"lengths,");
-            bits(a);
-            text(b",");
-            bits(b);
+            keyed(out, b" ratio=lengths,", a)?;
+            keyed(out, b",", b)
         }
         Ratio::Power(f, k) => {
-            text(b"power,");
-            bits(f);
-            text(b",");
-            exponent(k);
+            keyed(out, b" ratio=power,", f)?;
+            text(out, b",")?;
+            exponent(out, k)
         }
     }
 }
 
 // The refusal's number and detail.
-pub fn refused(why: Refusal) {
-    text(b"refused,");
-    number(why.number() as u64);
-    text(b",");
-    number(why.detail() as u64);
+pub fn refused(out: &mut impl Write, why: Refusal) -> io::Result<()> {
+    write!(out, "refused,{},{}", why.number(), why.detail())
 }
 
 // What a tree move answers.
-pub fn answer(of: Answer) {
+pub fn answer(out: &mut impl Write, of: Answer) -> io::Result<()> {
     match of {
         Answer::Moved(moved) => {
-            text(b"moved");
-            draws(moved.draws);
-            let odds = moved.ratio;
-            ratio(odds);
-            text(b" root=");
-            number(moved.root as u64);
+            text(out, b"moved")?;
+            draws(out, moved.draws)?;
+            ratio(out, moved.ratio)?;
+            write!(out, " root={}", moved.root)
         }
-        Answer::Declined(count) => {
-            text(b"declined");
-            draws(count);
-        }
-        Answer::Refused(why) => refused(why),
+        Answer::Declined(count) => declined(out, count),
+        Answer::Refused(why) => refused(out, why),
     }
 }
 
 // What a call on parameters answers.
-pub fn proposal(of: Proposal) {
+pub fn proposal(out: &mut impl Write, of: Proposal) -> io::Result<()> {
     match of {
         Proposal::Scaled(count, odds) => {
-            text(b"scaled");
-            draws(count);
-            ratio(odds);
+            text(out, b"scaled")?;
+            draws(out, count)?;
+            ratio(out, odds)
         }
-        Proposal::Declined(count) => {
-            text(b"declined");
-            draws(count);
-        }
-        Proposal::Refused(why) => refused(why),
+        Proposal::Declined(count) => declined(out, count),
+        Proposal::Refused(why) => refused(out, why),
     }
 }
 
-pub fn verdict(of: Verdict) {
+fn declined(out: &mut impl Write, count: u32) -> io::Result<()> {
+    text(out, b"declined")?;
+    draws(out, count)
+}
+
+pub fn verdict(out: &mut impl Write, of: Verdict) -> io::Result<()> {
     match of {
-        Verdict::Fine => text(b"fine"),
-        Verdict::Refused(why) => refused(why),
+        Verdict::Fine => text(out, b"fine"),
+        Verdict::Refused(why) => refused(out, why),
     }
 }
 
 // A node, or a dash for 65,535, which is none.
-fn mark(k: u16) {
+fn mark(out: &mut impl Write, k: u16) -> io::Result<()> {
     if k == 65535 {
-        text(b" -");
+        text(out, b" -")
     } else {
-        text(b" ");
-        number(k as u64);
+        write!(out, " {k}")
     }
 }
 
 // The first nine of a slice.
-pub fn marks(of: &[u16]) {
-    let mut i = 0;
-    while i < of.len() {
-        if i == 9 {
-            text(b" ...");
-            return;
-        }
-        mark(of[i]);
-        i += 1;
+pub fn marks(out: &mut impl Write, of: &[u16]) -> io::Result<()> {
+    for k in of.iter().take(9) {
+        mark(out, *k)?;
     }
+    if of.len() > 9 {
+        text(out, b" ...")?;
+    }
+    Ok(())
 }

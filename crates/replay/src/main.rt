@@ -1,5 +1,5 @@
 // The replay program: answers state files that are stored with the Rust's answers, and says that all answers are alike, or which is the first that is
-// not. specs/Replay.antt says what the data is and what comes of it. Assumes nothing beyond io and os.
+// not. specs/Replay.antt says what the data is and what comes of it. Assumes nothing beyond std.
 #![tactic(auto)]
 
 ghost use Rattle.std.specs.Prelude.{◌≡◌, length, drop};
@@ -7,7 +7,10 @@ ghost use Rattle.respond.specs.Respond.{file_reply};
 ghost use Rattle.replay.specs.Replay.{compared, within, counted, replay_case, outcome, replayed};
 ghost use Rattle.replay.specs.Given.{texted, Inside, stepped};
 
-use lines::{number, text};
+use std::alloc::{AllocError, Global};
+use std::fs::File;
+use std::io;
+use std::io::Read;
 use text::Number;
 
 // The longest file that is looked at, in bytes.
@@ -17,21 +20,21 @@ const LONGEST: usize = 131072;
 const MOST: u32 = 4294967295;
 
 // Two texts: alike, or the first place where they are not, which may be where one of them ends.
-#[derive(Drop)]
+#[derive(Clone, Copy)]
 pub enum Compared {
     Alike,
     Differ(usize),
 }
 
 // Where a text of the data starts and ends.
-#[derive(Drop)]
+#[derive(Clone, Copy)]
 pub enum Span {
     Between(usize, usize),
     Malformed,
 }
 
 // What comes of a case: the answer is the one stored, and the case ends at a place; the answer differs at a place; or the case is not of its form.
-#[derive(Drop)]
+#[derive(Clone, Copy)]
 pub enum Step {
     Alike(usize),
     Differs(usize),
@@ -40,13 +43,14 @@ pub enum Step {
 
 // What comes of the data: so many cases, all alike; the first case that differs, by its number from 1, and the place in its answer; or after how many
 // cases the data is not of its form.
-#[derive(Drop)]
+#[derive(Clone, Copy)]
 pub enum Outcome {
     Alike(usize),
     Differs(usize, usize),
     Malformed(usize),
 }
 
+#[tactic(auto, using(crate::proofs::ReplayLaws::compare_laws))]
 fn compare(given: &[u8], expected: &[u8]) -> Compared
     ensures { result ≡ compared 0 given.now expected.now }
 {
@@ -74,6 +78,7 @@ fn answer_room() -> [u8; 131136]
 }
 
 // A file's answer beside the one that is expected.
+#[tactic(auto, using(crate::proofs::ReplayLaws::file_laws))]
 fn replay_file(file: &[u8], expected: &[u8]) -> Compared
     ensures { result ≡ compared 0 (within 131136 (file_reply 131072 file.now)) expected.now }
 {
@@ -83,6 +88,7 @@ fn replay_file(file: &[u8], expected: &[u8]) -> Compared
 }
 
 // A text after a line with its key and its length, and a byte 10 after it.
+#[tactic(auto, using(crate::proofs::ReplayLaws::text_laws))]
 fn read_text(s: &[u8], at: usize, key: &[u8]) -> Span
     ensures result_value { texted s.now result ≡ counted key.now (drop at s.now) }
     ensures inside { Inside s.now result }
@@ -105,6 +111,7 @@ fn read_text(s: &[u8], at: usize, key: &[u8]) -> Span
 }
 
 // The case from a place of the data on.
+#[tactic(auto, using(crate::proofs::ReplayLaws::place_laws, crate::proofs::ReplayLaws::case_laws))]
 fn replay_case(s: &[u8], at: usize) -> Step
     ensures { stepped s.now result ≡ replay_case (drop at s.now) }
 {
@@ -121,6 +128,7 @@ fn replay_case(s: &[u8], at: usize) -> Step
 }
 
 // So many cases from a place of the data on, and nothing after them.
+#[tactic(auto, using(crate::proofs::ReplayLaws::cases_laws))]
 fn replay_cases(s: &[u8], at: usize, count: usize) -> Outcome
     ensures { result ≡ outcome count 0 (drop at s.now) }
 {
@@ -146,6 +154,7 @@ fn replay_cases(s: &[u8], at: usize, count: usize) -> Outcome
     Outcome::Alike(count)
 }
 
+#[tactic(auto, using(crate::proofs::ReplayLaws::all_laws))]
 fn replay(s: &[u8]) -> Outcome
     ensures { result ≡ replayed s.now }
 {
@@ -155,42 +164,34 @@ fn replay(s: &[u8]) -> Outcome
     replay_cases(s, i, count as usize)
 }
 
-fn print(outcome: Outcome) {
+fn print(rt: &impl Print, outcome: Outcome) -> io::Result<()> {
     match outcome {
-        Outcome::Alike(count) => {
-            number(count as u64);
-            text(b" cases replayed, none differs\n");
-        }
-        Outcome::Differs(case, place) => {
-            text(b"case ");
-            number(case as u64);
-            text(b" differs: its answer is the one stored for ");
-            number(place as u64);
-            text(b" bytes only\n");
-        }
-        Outcome::Malformed(count) => {
-            text(b"the data is not of its form after ");
-            number(count as u64);
-            text(b" cases\n");
-        }
+        Outcome::Alike(count) => println!(rt; "{count} cases replayed, none differs"),
+        Outcome::Differs(case, place) => println!(rt;
+            "case {case} differs: its answer is the one stored for {place} bytes only"
+        ),
+        Outcome::Malformed(count) => println!(rt;
+            "the data is not of its form after {count} cases"
+        ),
     }
 }
 
 // Room for the data, and more.
-fn data_room() -> [u8; 2000000] {
-    [0u8; 2000000]
+fn data_room(alloc: Global) -> Result<Vec<u8>, AllocError> {
+    Vec::with_capacity(alloc, 2000000)
 }
 
-fn main() {
-    let name = b"cases";
-    let file = os::open_read(name);
-    if file < 0 {
-        os::fail(name);
-        text(b"the data cannot be opened\n");
-        return;
+fn main(rt: HostRuntime) -> io::Result<()> {
+    let name = "cases";
+    match File::open(&rt, name) {
+        Ok(mut file) => {
+            let mut data = data_room(rt.alloc())?;
+            file.read_to_end(&mut data)?;
+            print(&rt, replay(&data))
+        }
+        Err(error) => {
+            eprintln!(rt; "{name}: {error}")?;
+            println!(rt; "the data cannot be opened")
+        }
     }
-    let mut data = data_room();
-    let count = io::read_full(file, &mut data);
-    libc::close(file);
-    print(replay(&data[..count]));
 }

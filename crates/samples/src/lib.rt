@@ -1,8 +1,10 @@
 // What the programs give to the calls: trees, floats at the limits and generators. Assumes nothing.
 #![tactic(auto)]
 
-use lines::{colon, end, float, number, state, text};
+use lines::{colon, end, float, state, text};
 use random::Random;
+use std::io;
+use std::io::Write;
 
 // No node: twice for a tip's children, once for the root's parent.
 pub const NONE: u16 = 65535;
@@ -47,11 +49,9 @@ pub fn put_flat(pairs: &mut [u16]) {
 // Each node after the tips is one higher than the one before it.
 pub fn put_heights(heights: &mut [f64]) {
     let mut height = 0.0;
-    let mut k = heights.len() / 2 + 1;
-    while k < heights.len() {
+    for k in heights.len() / 2 + 1..heights.len() {
         height += 1.0;
         heights[k] = height;
-        k += 1;
     }
 }
 
@@ -136,36 +136,31 @@ pub fn generator(seed: u64) -> Random {
     Random::new(seed)
 }
 
+fn words_of(out: &mut impl Write, w: [u64; 4]) -> io::Result<()> {
+    let [a, b, c, d] = w;
+    write!(out, ", words {a},{b},{c},{d}")
+}
+
 // The generator and the allowance.
-pub fn supplied(seed: u64, allowance: u32) {
+pub fn supplied(out: &mut impl Write, seed: u64, allowance: u32) -> io::Result<()> {
     if seed <= ZEROS {
-        let w = words(seed);
-        text(b", words ");
-        number(w[0]);
-        text(b",");
-        number(w[1]);
-        text(b",");
-        number(w[2]);
-        text(b",");
-        number(w[3]);
+        words_of(out, words(seed))?;
     } else {
-        text(b", seed ");
-        number(seed);
+        write!(out, ", seed {seed}")?;
     }
-    text(b", allowance ");
-    number(allowance as u64);
-    colon();
+    write!(out, ", allowance {allowance}")?;
+    colon(out)
 }
 
 // The tuning, the generator and the allowance.
-pub fn tuned(tuning: f64, seed: u64, allowance: u32) {
-    text(b" by");
-    float(tuning);
-    supplied(seed, allowance);
+pub fn tuned(out: &mut impl Write, tuning: f64, seed: u64, allowance: u32) -> io::Result<()> {
+    text(out, b" by")?;
+    float(out, tuning)?;
+    supplied(out, seed, allowance)
 }
 
 // The generator after a call, at the end of a line.
-pub fn after(random: Random) {
-    state(random.state());
-    end();
+pub fn after(out: &mut impl Write, random: Random) -> io::Result<()> {
+    state(out, random.state())?;
+    end(out)
 }

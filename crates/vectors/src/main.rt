@@ -2,8 +2,10 @@
 // Assumes nothing.
 #![tactic(auto)]
 
-use lines::{end, float, number, refused, text};
+use lines::{float, refused};
 use random::{Below, Random};
+use std::io;
+use std::io::{BufWriter, Write};
 use std::num::wrapping_add_u64;
 use words::rotate_left;
 
@@ -88,13 +90,8 @@ const FEW_OUTPUTS: [u64; 5] = [
 const GAMMA: u64 = 0x9e37_79b9_7f4a_7c15;
 
 // A line on how many of the published numbers were met.
-fn agreed(name: &[u8], same: usize, of: usize) {
-    text(name);
-    text(b": ");
-    number(same as u64);
-    text(b" of ");
-    number(of as u64);
-    text(b" as published\n");
+fn agreed(out: &mut impl Write, name: &str, same: usize, of: usize) -> io::Result<()> {
+    writeln!(out, "{name}: {same} of {of} as published")
 }
 
 // How many of the first draws from a generator are the published ones.
@@ -134,12 +131,12 @@ fn four_on(seed: u64) -> u64 {
     wrapping_add_u64(seed, wrapping_add_u64(two, two))
 }
 
-fn draws(name: &[u8], start: Random, published: &[u64]) {
-    agreed(name, same_draws(start, published), published.len());
+fn draws(out: &mut impl Write, name: &str, start: Random, published: &[u64]) -> io::Result<()> {
+    agreed(out, name, same_draws(start, published), published.len())
 }
 
-fn outputs(name: &[u8], seed: u64, published: &[u64]) {
-    agreed(name, same_outputs(seed, published), published.len());
+fn outputs(out: &mut impl Write, name: &str, seed: u64, published: &[u64]) -> io::Result<()> {
+    agreed(out, name, same_outputs(seed, published), published.len())
 }
 
 // The generator whose first draw is w: of its four words only the last is not 0, and a draw of such a generator is that word rotated left by 23.
@@ -148,112 +145,101 @@ fn drawing(w: u64) -> Random {
 }
 
 // A line on the uniforms of a numerator below 2^53, by their bits: of the lowest and of the highest draw whose top 53 bits it is.
-fn uniforms(name: &[u8], numerator: u64) {
-    text(b"uniform of ");
-    text(name);
-    text(b":");
+fn uniforms(out: &mut impl Write, name: &str, numerator: u64) -> io::Result<()> {
+    write!(out, "uniform of {name}:")?;
     let lowest = numerator << 11;
     let low = drawing(lowest).uniform();
     let high = drawing(lowest + 2047).uniform();
-    float(low.value);
-    float(high.value);
-    end();
+    float(out, low.value)?;
+    float(out, high.value)?;
+    writeln!(out)
 }
 
 // A line on one call of `below`: the number and the draws made, or the refusal's number and detail.
-fn below(name: &[u8], g: Random, n: usize, allowance: u32) {
-    text(name);
-    text(b": below ");
-    number(n as u64);
-    text(b" by ");
-    number(allowance as u64);
+fn below(out: &mut impl Write, name: &str, g: Random, n: usize, allowance: u32) -> io::Result<()> {
+    write!(out, "{name}: below {n} by {allowance} is ")?;
     let d = g.below(n, allowance);
     let answer = d.answer;
     match answer {
-        Below::Drawn(value, draws) => {
-            text(b" is ");
-            number(value as u64);
-            text(b", draws ");
-            number(draws as u64);
-        }
-        Below::Refused(why) => {
-            text(b" is ");
-            refused(why);
-        }
+        Below::Drawn(value, draws) => write!(out, "{value}, draws {draws}")?,
+        Below::Refused(why) => refused(out, why)?,
     }
-    text(b"\n");
+    writeln!(out)
 }
 
 // A line on whether something holds.
-fn says(name: &[u8], holds: bool) {
-    text(name);
+fn says(out: &mut impl Write, name: &str, holds: bool) -> io::Result<()> {
     if holds {
-        text(b": yes\n");
+        writeln!(out, "{name}: yes")
     } else {
-        text(b": no\n");
+        writeln!(out, "{name}: no")
     }
 }
 
-fn published(counting: Random) {
-    draws(b"xoshiro256++ from 1,2,3,4", counting, &DRAWS);
+fn published(out: &mut impl Write, counting: Random) -> io::Result<()> {
+    draws(out, "xoshiro256++ from 1,2,3,4", counting, &DRAWS)?;
     outputs(
-        b"SplitMix64 from 1477776061723855037",
+        out,
+        "SplitMix64 from 1477776061723855037",
         1477776061723855037,
         &OUTPUTS,
-    );
-    outputs(b"SplitMix64 from 1234567", 1234567, &FEW_OUTPUTS);
+    )?;
+    outputs(out, "SplitMix64 from 1234567", 1234567, &FEW_OUTPUTS)
 }
 
-fn values(counting: Random) {
+fn values(out: &mut impl Write, counting: Random) -> io::Result<()> {
     let u = counting.uniform();
     says(
-        b"uniform from 1,2,3,4 is 5 * 2^-41",
+        out,
+        "uniform from 1,2,3,4 is 5 * 2^-41",
         u.value == 5.0 / 2199023255552.0,
-    );
+    )?;
     let c = counting.coin();
-    says(b"coin from 1,2,3,4 is the second side", !c.value);
+    says(out, "coin from 1,2,3,4 is the second side", !c.value)?;
     let high = Random::from_state([0x8000_0000_0000_0000, 0, 0, 0]);
     let d = high.coin();
-    says(b"coin from 2^63,0,0,0 is the first side", d.value);
+    says(out, "coin from 2^63,0,0,0 is the first side", d.value)
 }
 
 // Numerators at both ends of their range, and where their lower 32 bits end and the top bit begins.
-fn numerators() {
-    uniforms(b"0", 0);
-    uniforms(b"1", 1);
-    uniforms(b"2^32 - 1", 0xffff_ffff);
-    uniforms(b"2^32", 0x1_0000_0000);
-    uniforms(b"2^52", 0x10_0000_0000_0000);
-    uniforms(b"2^53 - 1", 0x1f_ffff_ffff_ffff);
+fn numerators(out: &mut impl Write) -> io::Result<()> {
+    uniforms(out, "0", 0)?;
+    uniforms(out, "1", 1)?;
+    uniforms(out, "2^32 - 1", 0xffff_ffff)?;
+    uniforms(out, "2^32", 0x1_0000_0000)?;
+    uniforms(out, "2^52", 0x10_0000_0000_0000)?;
+    uniforms(out, "2^53 - 1", 0x1f_ffff_ffff_ffff)
 }
 
-fn numbers() {
+fn numbers(out: &mut impl Write) -> io::Result<()> {
     let zeros = Random::from_state([0, 0, 0, 0]);
-    below(b"0,0,0,0", zeros, 4, 1);
-    below(b"0,0,0,0", zeros, 3, 1);
-    below(b"0,0,0,0", zeros, 3, 65535);
+    below(out, "0,0,0,0", zeros, 4, 1)?;
+    below(out, "0,0,0,0", zeros, 3, 1)?;
+    below(out, "0,0,0,0", zeros, 3, 65535)?;
     // The first draw is 0, which 3 passes over, and the second is not.
     let second = Random::from_state([0, 0x8000_0000_0000_0000, 0, 0]);
-    below(b"0,2^63,0,0", second, 3, 1);
-    below(b"0,2^63,0,0", second, 3, 2);
+    below(out, "0,2^63,0,0", second, 3, 1)?;
+    below(out, "0,2^63,0,0", second, 3, 2)?;
     // As rove's own `below` answers.
     let seeded = Random::new(1234567);
-    below(b"seed 1234567", seeded, 4095, 1);
-    below(b"seed 1234567", seeded, 4294967296, 65535);
+    below(out, "seed 1234567", seeded, 4095, 1)?;
+    below(out, "seed 1234567", seeded, 4294967296, 65535)
 }
 
-fn out_of_limits(counting: Random) {
-    below(b"1,2,3,4", counting, 0, 1);
-    below(b"1,2,3,4", counting, 4294967297, 1);
-    below(b"1,2,3,4", counting, 3, 0);
-    below(b"1,2,3,4", counting, 3, 65536);
+fn out_of_limits(out: &mut impl Write, counting: Random) -> io::Result<()> {
+    below(out, "1,2,3,4", counting, 0, 1)?;
+    below(out, "1,2,3,4", counting, 4294967297, 1)?;
+    below(out, "1,2,3,4", counting, 3, 0)?;
+    below(out, "1,2,3,4", counting, 3, 65536)
 }
 
-fn main() {
+fn main(rt: HostRuntime) -> io::Result<()> {
+    let mut out = BufWriter::new(rt.alloc(), io::writer(&rt))?;
     let counting = Random::from_state([1, 2, 3, 4]);
-    published(counting);
-    values(counting);
-    numerators();
-    numbers();
-    out_of_limits(counting);
+    published(&mut out, counting)?;
+    values(&mut out, counting)?;
+    numerators(&mut out)?;
+    numbers(&mut out)?;
+    out_of_limits(&mut out, counting)?;
+    out.flush()
 }
