@@ -12,5 +12,5 @@ put_report-requires c =
 
 pub returns-in-Root : goal.returns-in-Root
 returns-in-Root c =
-    state-made c.args.head _ _ _ _ c.requires.each _ c.new-rooted.ensures _ _ _ c.rooted-in-Root-1.given.1 _ c.generator-random.ensures _ _ _ _
+    state-made c.args.head _ _ _ _ c.requires.each _ c.new-rooted.ensures _ _ _ c.in-Root.is _ c.generator-random.ensures _ _ _ _
     c.make-answered.ensures c.put_report.ensures

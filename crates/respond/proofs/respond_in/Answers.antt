@@ -28,5 +28,5 @@ answer_state-requires c = part-lent _ _ _ c.requires _ c.if-n-gt4095.false _ c.h
 
 pub returns-in-Read : goal.returns-in-Read
 returns-in-Read c =
-    file-state _ _ _ _ _ _ c.requires _ c.read_state-read.ensures _ _ _ c.read-in-Read-1.given.1 _ c.node_count-n.ensures c.heights-1.given c.if-heights-n.false
+    file-state _ _ _ _ _ _ c.requires _ c.read_state-read.ensures _ _ _ c.in-Read.is _ c.node_count-n.ensures c.heights-1.given c.if-heights-n.false
     c.answer_state.ensures
