@@ -1,3 +1,4 @@
 -- The laws that the proofs of ages share: one for each way through a function.
 mod AgeLaws
 mod TableLaws
+pub mod FaultLaws

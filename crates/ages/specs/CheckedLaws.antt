@@ -5,7 +5,7 @@ use Rattle.tree.specs.declared.Verdict.TheVariants as Verdicts
 use Rattle.tree.specs.Tree.{Tree, nodes_of, tips_of}
 use Rattle.tree.specs.New.{validated}
 use Rattle.calls.specs.Call.{and_then}
-use Rattle.calls.specs.RunLaws.{clash}
+use Rattle.calls.proofs.RunLaws.{clash}
 use Rattle.process.specs.declared.FossilizedBirthDeath.{FossilizedBirthDeath}
 use Rattle.ages.specs.Ages.{table_sized, lowest_fault, or_parameter, table_checked}
 

@@ -4,19 +4,19 @@ use Rattle.std.specs.Prelude.{◌≡◌, Bool, true, ℕ}
 use Rattle.std.proofs.Common.{sym, ap, ◌∙◌, arith}
 use Rattle.random.specs.declared.Random.{Random}
 use Rattle.random.specs.Draw.{Draw}
-use Rattle.random.specs.DrawLaws.{allows}
+use Rattle.random.proofs.DrawLaws.{allows}
 use Rattle.random.specs.BelowCall.{below_call}
-use Rattle.random.specs.BelowCallLaws.{below-larger}
+use Rattle.random.proofs.BelowCallLaws.{below-larger}
 use Rattle.lent.specs.Lent.{lent_below}
 use Rattle.tree.specs.Tree.{Tree}
 use Rattle.calls.specs.Call.{Ending, limited}
 use Rattle.calls.specs.Change.{Change, value_call}
-use Rattle.calls.specs.RunLaws.{run-larger}
-use Rattle.calls.specs.CallLaws.{call-larger}
-use Rattle.calls.specs.ChangeLaws.{value-larger}
+use Rattle.calls.proofs.RunLaws.{run-larger}
+use Rattle.calls.proofs.TreeCallLaws.{call-larger}
+use Rattle.calls.proofs.ChangeLaws.{value-larger}
 use Rattle.moves.specs.Programs.{Start, slide_start}
 use Rattle.moves.specs.Moves.{Move, move_call, start_call, unvalidated_start}
-use Rattle.moves.specs.Demands.{larger}
+use Rattle.moves.proofs.Demands.{larger}
 use Rattle.slide.specs.Started.{started_of}
 use Rattle.scales.specs.Scales as Scales
 use Rattle.clocks.specs.Clocks as Clocks

@@ -10,18 +10,18 @@ use Rattle.answer.specs.Answers.{draws_of}
 use Rattle.random.specs.declared.Random.{Random}
 use Rattle.random.specs.declared.Below.{Below}
 use Rattle.random.specs.declared.Below.TheVariants as Belows
-use Rattle.random.specs.DrawLaws.{after-four}
+use Rattle.random.proofs.DrawLaws.{after-four}
 use Rattle.random.specs.BelowCall.{below_call}
-use Rattle.random.specs.BelowCallLaws.{below-drawn}
+use Rattle.random.proofs.BelowCallLaws.{below-drawn}
 use Rattle.lent.specs.Lent.{lent_below}
 use Rattle.lent.specs.LentLaws.{below-as-lent}
 use Rattle.tree.specs.declared.Verdict.{Verdict}
 use Rattle.tree.specs.Tree.{Tree}
 use Rattle.calls.specs.Call.{Called, Ending, refused, given, limited, checked, run_call, call_of}
-use Rattle.calls.specs.RunLaws.{run-steps}
+use Rattle.calls.proofs.RunLaws.{run-steps}
 use Rattle.moves.specs.Programs.{Start, slide_start}
 use Rattle.moves.specs.Moves.{Move, subtree_slide, move_call, start_call, unvalidated_start}
-use Rattle.moves.specs.Demands.{steps}
+use Rattle.moves.proofs.Demands.{steps}
 use Rattle.slide.specs.declared.Begun.{Begun}
 use Rattle.slide.specs.declared.Begun.TheVariants as Begins
 use Rattle.slide.specs.declared.Started.{Started}

@@ -11,13 +11,13 @@ use Rattle.answer.specs.declared.Proposal.TheVariants as Proposals
 use Rattle.answer.specs.Answers.{draws_of, draws_in}
 use Rattle.random.specs.declared.Random.{Random}
 use Rattle.random.specs.Draw.{Draw}
-use Rattle.random.specs.DrawLaws.{after-four}
+use Rattle.random.proofs.DrawLaws.{after-four}
 use Rattle.real.specs.declared.Optional.{Optional}
 use Rattle.real.specs.declared.Optional.TheVariants as Optionals
 use Rattle.real.specs.Real.{one}
 use Rattle.tree.specs.Tree.{Tree}
 use Rattle.calls.specs.Change.{Change, value_call}
-use Rattle.calls.specs.ChangeLaws.{value-steps}
+use Rattle.calls.proofs.ChangeLaws.{value-steps}
 use Rattle.speciation.specs.declared.Speciation.{Speciation}
 use Rattle.speciation.specs.declared.Speciation.TheVariants.{Yule, BirthDeath}
 use Rattle.process.specs.declared.FossilizedBirthDeath.{FossilizedBirthDeath}

@@ -11,7 +11,7 @@ use mir.Syntax.{w64}
 use Rattle.random.specs.declared.Supply.{Supply}
 use Rattle.random.specs.declared.DrawnNumber.{DrawnNumber}
 use Rattle.random.specs.Draw.{below, below_other, onward, pick, drawn_number}
-use Rattle.random.specs.DrawLaws.{other-plain, below-yields}
+use Rattle.random.proofs.DrawLaws.{other-plain, below-yields}
 use Rattle.random.specs.SupplyLaws.{number-got, number-spent}
 use Rattle.real.specs.Real.{one}
 use Rattle.tree.specs.Tree.{tips_of}

@@ -7,14 +7,7 @@ pub mod Draws
 pub mod Chosen
 pub mod Given
 pub mod Harmless
-pub mod HarmlessLaws
-pub mod EntryLaws
-pub mod RunLaws
-pub mod CallLaws
-pub mod LeavesLaws
-pub mod ChangeLaws
 pub mod RedrawLaws
-pub mod HeightLaws
 pub mod LeastLaws
 pub mod YieldLaws
 pub mod StepLaws

@@ -4,7 +4,7 @@ use Rattle.std.specs.Prelude.{◌≡◌, Bool, true, false, ℕ, ◌<◌}
 use Rattle.random.specs.declared.Supply.{Supply}
 use Rattle.random.specs.declared.DrawnNumber.{DrawnNumber}
 use Rattle.random.specs.Draw.{Number, until, pick, drawn_number}
-use Rattle.random.specs.DrawLaws.{until-spent, until-found, until-again, pick-taking}
+use Rattle.random.proofs.DrawLaws.{until-spent, until-found, until-again, pick-taking}
 use Rattle.random.specs.SupplyLaws.{number-got, number-spent}
 
 module _ (test : ℕ → Bool) (d : Number) (s : Supply) (r : DrawnNumber) (e : r ≡ drawn_number s (pick d s)) where

@@ -4,7 +4,7 @@ use Rattle.std.specs.Prelude.{◌≡◌, refl, Bool, true, false, cond, ℕ, Flo
 use Rattle.random.specs.Draw.{Number, Draw, return, draw, ◌>>=◌, uniform, pick, run}
 use Rattle.random.specs.Lawful.{Yields}
 use Rattle.random.specs.UniformLaws.{UnitFraction}
-use Rattle.random.specs.DrawLaws.{return-yields, draws-yields, bind-yields, uniform-yields}
+use Rattle.random.proofs.DrawLaws.{return-yields, draws-yields, bind-yields, uniform-yields}
 use Rattle.rules.specs.Rules.{within}
 use Rattle.calls.specs.Call.{Reply, makes, outside, Outcome}
 use Rattle.calls.specs.Draws.{scaler, interpolated, drawn_height}

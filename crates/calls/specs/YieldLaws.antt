@@ -4,7 +4,7 @@ use Rattle.std.specs.Prelude.{◌≡◌, ◌≢◌, not, ℕ, ◌+◌, ◌%◌, 
 use Rattle.std.proofs.Common.{arith}
 use Rattle.random.specs.Draw.{below, pick}
 use Rattle.random.specs.Lawful.{Yields}
-use Rattle.random.specs.DrawLaws.{until-yields, map-yields, below-yields}
+use Rattle.random.proofs.DrawLaws.{until-yields, map-yields, below-yields}
 use Rattle.tree.specs.Tree.{tips_of}
 use Rattle.tree.specs.ScanLaws.{neqb→ne}
 use Rattle.rules.specs.Rules.{internals}

@@ -17,13 +17,13 @@ use Rattle.random.specs.declared.Supply.{Supply}
 use Rattle.random.specs.declared.DrawnNumber.{DrawnNumber}
 use Rattle.random.specs.declared.DrawnReal.{DrawnReal}
 use Rattle.random.specs.Draw.{below, uniform, got, pick, run, supply_of, allowed, drawn_number, drawn_real}
-use Rattle.random.specs.DrawLaws.{pick-lawful, draw-got, draw-spent, bind-got, bind-spent, below-yields}
+use Rattle.random.proofs.DrawLaws.{pick-lawful, draw-got, draw-spent, bind-got, bind-spent, below-yields}
 use Rattle.random.specs.SupplyLaws.{number-got, number-spent}
 use Rattle.real.specs.declared.Optional.{Optional}
 use Rattle.real.specs.declared.Optional.TheVariants.{Missing, Given}
 use Rattle.real.specs.Real.{positive}
 use Rattle.calls.specs.Change.{declined, scaled, in_place, on_part, proposed, value_call}
-use Rattle.calls.specs.ChangeLaws.{put_in, value-limits, value-spent, value-declined, value-scaled, value-part}
+use Rattle.calls.proofs.ChangeLaws.{put_in, value-limits, value-spent, value-declined, value-scaled, value-part}
 use Rattle.calls.specs.Draws.{scaler, tuned}
 use Rattle.rates.specs.Clock.{clock_fits}
 use Rattle.scales.specs.declared.Scaled.{Scaled}

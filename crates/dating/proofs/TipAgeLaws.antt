@@ -13,7 +13,7 @@ use Rattle.random.specs.declared.Supply.{Supply}
 use Rattle.random.specs.declared.DrawnNumber.{DrawnNumber}
 use Rattle.random.specs.declared.DrawnReal.{DrawnReal}
 use Rattle.random.specs.Draw.{below, uniform, pick, run, drawn_number, drawn_real, supply_of, allowed}
-use Rattle.random.specs.DrawLaws.{draw-got, draw-spent}
+use Rattle.random.proofs.DrawLaws.{draw-got, draw-spent}
 use Rattle.random.specs.SupplyLaws.{number-got, number-spent}
 use Rattle.real.specs.Real.{min_of}
 use Rattle.tree.specs.declared.Verdict.{Verdict}
@@ -29,8 +29,8 @@ use Rattle.calls.specs.declared.Turn.{Turn}
 use Rattle.calls.specs.declared.Turned.TheVariants as Turns
 use Rattle.calls.specs.Call.{Outcome, moved, called, leaves}
 use Rattle.calls.specs.Given.{after, after_on, turn_of, turned_back, answered_of, height_of}
-use Rattle.calls.specs.EntryLaws.{answered-run}
-use Rattle.calls.specs.HeightLaws.{height-spent, height-inside, height-outside}
+use Rattle.calls.proofs.EntryLaws.{answered-run}
+use Rattle.calls.proofs.HeightLaws.{height-spent, height-inside, height-outside}
 use Rattle.process.specs.declared.FossilizedBirthDeath.{FossilizedBirthDeath}
 use Rattle.process.specs.Process.{process_finite}
 use Rattle.ages.specs.declared.TipAge.{TipAge}

@@ -16,8 +16,8 @@ use Rattle.accepted.specs.AcceptedLaws.{accepted-valid}
 use Rattle.accepted.specs.ValidatedLaws.{valid-fine}
 use Rattle.accepted.specs.RefusalLaws.{AtMost, either, lowest-few, validated-few, few-more}
 use Rattle.calls.specs.Call.{and_then, limited}
-use Rattle.calls.specs.RunLaws.{clash}
-use Rattle.calls.specs.CallLaws.{then-few, limited-few}
+use Rattle.calls.proofs.RunLaws.{clash}
+use Rattle.calls.proofs.TreeCallLaws.{then-few, limited-few}
 use Rattle.process.specs.declared.FossilizedBirthDeath.{FossilizedBirthDeath}
 use Rattle.process.specs.Process.{process_finite}
 use Rattle.ages.specs.Ages.{at_fault, table_sized, lowest_fault, or_parameter}

@@ -21,8 +21,8 @@ use Rattle.tree.specs.LowestLaws.{lowest-fine}
 use Rattle.accepted.specs.AcceptedLaws.{valid-accepted}
 use Rattle.accepted.specs.ValidatedLaws.{fine-valid}
 use Rattle.calls.specs.Call.{Reply, makes, not_finite, outside, draws_made, Outcome, declined, moved, called_on}
-use Rattle.calls.specs.CallLaws.{allows}
-use Rattle.calls.specs.LeavesLaws.{Replied, leaves-refused, leaves_kept, leaves-steps, leaves-within, leaves-draws, leaves-larger, leaves-enough, leaves-moved, leaves-declined, leaves-infinite, leaves-outside}
+use Rattle.calls.proofs.TreeCallLaws.{allows}
+use Rattle.calls.proofs.LeavesLaws.{Replied, leaves-refused, leaves_kept, leaves-steps, leaves-within, leaves-draws, leaves-larger, leaves-enough, leaves-moved, leaves-declined, leaves-infinite, leaves-outside}
 use Rattle.moves.specs.Ends.{tree_after, tree_left, Ends}
 use Rattle.moves.specs.EndsLaws.{run_ends, left_so}
 use Rattle.process.specs.declared.FossilizedBirthDeath.{FossilizedBirthDeath}

@@ -3,7 +3,7 @@ use Rattle.std.specs.Prelude.{◌≡◌, refl, Bool, true, false, List, ℕ, ◌
 use denote.Floats.{passes}
 use Rattle.random.specs.Draw.{below, run}
 use Rattle.random.specs.Lawful.{Yields}
-use Rattle.random.specs.DrawLaws.{return-yields, below-yields}
+use Rattle.random.proofs.DrawLaws.{return-yields, below-yields}
 use Rattle.tree.specs.Tree.{Tree, nodes_of, tips_of}
 use Rattle.edits.specs.Slots.{set_height}
 use Rattle.rules.specs.Rules.{within, ceiling, tip_age_declines, tip_moved, tip_age_ratio}

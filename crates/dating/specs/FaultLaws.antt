@@ -16,13 +16,13 @@ use Rattle.accepted.specs.AcceptedLaws.{accepted-valid}
 use Rattle.accepted.specs.ValidatedLaws.{valid-fine}
 use Rattle.calls.specs.Call.{and_then, run_call, called_on, leaves}
 use Rattle.calls.specs.Draws.{least}
-use Rattle.calls.specs.RunLaws.{clash}
+use Rattle.calls.proofs.RunLaws.{clash}
 use Rattle.moves.specs.Ends.{Ends, refuses}
 use Rattle.moves.specs.EndsLaws.{run_ends}
 use Rattle.process.specs.declared.FossilizedBirthDeath.{FossilizedBirthDeath}
 use Rattle.process.specs.Process.{process_finite}
 use Rattle.ages.specs.Ages.{table_checked}
-use Rattle.ages.specs.FaultLaws.{LowestAt, checked-fault, Five, checked-five}
+use Rattle.ages.proofs.FaultLaws.{LowestAt, checked-fault, Five, checked-five}
 use Rattle.dating.specs.Initialize.{Start, start_of, overflows_at, initial_to, start_fits, all_finite, initialized, or_kept, initialize_call}
 use Rattle.dating.specs.TipAge.{tip_age, ages_checked, tip_age_call}
 

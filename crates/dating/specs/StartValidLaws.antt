@@ -34,7 +34,7 @@ use Rattle.edits.specs.HeightLaws.{redated-valid}
 use Rattle.calls.specs.Call.{and_then}
 use Rattle.calls.specs.Draws.{least}
 use Rattle.calls.specs.LeastLaws.{least-below}
-use Rattle.calls.specs.RunLaws.{clash}
+use Rattle.calls.proofs.RunLaws.{clash}
 use Rattle.reversal.specs.FailedLaws.{passed}
 use Rattle.process.specs.declared.FossilizedBirthDeath.{FossilizedBirthDeath}
 use Rattle.process.specs.Process.{process_finite}

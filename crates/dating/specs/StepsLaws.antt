@@ -3,7 +3,7 @@
 use Rattle.std.specs.Prelude.{List, [], ◌∷◌}
 use Rattle.tree.specs.Tree.{Tree}
 use Rattle.tree.specs.New.{Accepted}
-use Rattle.moves.specs.Demands.{stays-settled}
+use Rattle.moves.proofs.Demands.{stays-settled}
 use Rattle.dating.specs.Steps.{Step, moves, ages, tree_stepped, Warranted, tree_steps, AllWarranted}
 use Rattle.dating.specs.AgeDemands.{age-stays}
 

@@ -11,7 +11,7 @@ use Rattle.random.specs.declared.Supply.{Supply}
 use Rattle.random.specs.declared.DrawnNumber.{DrawnNumber}
 use Rattle.random.specs.declared.DrawnSide.{DrawnSide}
 use Rattle.random.specs.Draw.{got, coin, pick, run, drawn_number, drawn_side}
-use Rattle.random.specs.DrawLaws.{draw-got, draw-spent, bind-got, bind-spent, until-yields}
+use Rattle.random.proofs.DrawLaws.{draw-got, draw-spent, bind-got, bind-spent, until-yields}
 use Rattle.random.specs.SupplyLaws.{number-got, number-spent, side-got, side-spent}
 use Rattle.tree.specs.Tree.{Tree, nodes_of, inner, first, second, height}
 use Rattle.tree.specs.Valid.{Valid, Inner}

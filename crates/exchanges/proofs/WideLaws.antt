@@ -12,7 +12,7 @@ use Rattle.answer.specs.declared.Ratio.TheVariants.{Even}
 use Rattle.random.specs.declared.Supply.{Supply}
 use Rattle.random.specs.declared.DrawnNumber.{DrawnNumber}
 use Rattle.random.specs.Draw.{got, pick, run, drawn_number}
-use Rattle.random.specs.DrawLaws.{draw-got, draw-spent, until-yields}
+use Rattle.random.proofs.DrawLaws.{draw-got, draw-spent, until-yields}
 use Rattle.random.specs.SupplyLaws.{number-got, number-spent}
 use Rattle.tree.specs.Tree.{Tree, nodes_of, parent, height}
 use Rattle.tree.specs.Valid.{Valid}

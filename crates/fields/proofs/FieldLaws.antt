@@ -12,7 +12,7 @@ use Rattle.random.specs.declared.DrawnReal.{DrawnReal}
 use Rattle.random.specs.Draw.{uniform, run, supply_of, allowed, drawn_real}
 use Rattle.real.specs.Real.{is_not_negative}
 use Rattle.calls.specs.Change.{proposed, value_call}
-use Rattle.calls.specs.ChangeLaws.{put_in, value-limits, value-spent, value-undrawn, value-part}
+use Rattle.calls.proofs.ChangeLaws.{put_in, value-limits, value-spent, value-undrawn, value-part}
 use Rattle.calls.specs.Draws.{scaler, tuned}
 use Rattle.kinds.specs.declared.Move.{Move}
 use Rattle.process.specs.declared.FossilizedBirthDeath.{FossilizedBirthDeath}

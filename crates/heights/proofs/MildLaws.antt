@@ -19,7 +19,7 @@ use Rattle.calls.specs.declared.Turn.{Turn}
 use Rattle.calls.specs.declared.Turned.TheVariants as Turns
 use Rattle.calls.specs.Given.{After, after, after_on, turn_of}
 use Rattle.calls.specs.Harmless.{Mild}
-use Rattle.calls.specs.HarmlessLaws.{mild_laws, mild-moved, mild-declined, mild-later, run-mild}
+use Rattle.calls.proofs.HarmlessLaws.{mild_laws, mild-moved, mild-declined, mild-later, run-mild}
 use Rattle.moves.specs.Programs.{placing}
 use Rattle.heights.specs.Given.{heights_of, stays, scaled_with, scaled_turn}
 

@@ -16,7 +16,7 @@ use Rattle.random.specs.declared.Supply.{Supply}
 use Rattle.random.specs.declared.DrawnNumber.{DrawnNumber}
 use Rattle.random.specs.declared.DrawnReal.{DrawnReal}
 use Rattle.random.specs.Draw.{below_other, uniform, pick, run, drawn_number, drawn_real}
-use Rattle.random.specs.DrawLaws.{draw-got, draw-spent, until-yields}
+use Rattle.random.proofs.DrawLaws.{draw-got, draw-spent, until-yields}
 use Rattle.random.specs.SupplyLaws.{number-got, number-spent}
 use Rattle.real.specs.Real.{max_of}
 use Rattle.tree.specs.Tree.{Tree, nodes_of, tips_of, parent, height}
@@ -36,7 +36,7 @@ use Rattle.calls.specs.Draws.{internal}
 use Rattle.moves.specs.Programs.{node_height, non_root_internal, placing}
 use Rattle.calls.specs.Given.{After, after, after_on, turn_of, height_of}
 use Rattle.calls.specs.YieldLaws.{Internal, internal-yields}
-use Rattle.calls.specs.HeightLaws.{height-spent, height-inside, height-outside}
+use Rattle.calls.proofs.HeightLaws.{height-spent, height-inside, height-outside}
 use Rattle.heights.specs.Given.{shaped, has_kin, stays}
 use Rattle.heights.proofs.RangeLaws.{valid-kin}
 

@@ -11,7 +11,7 @@ use Rattle.answer.specs.declared.Ratio.TheVariants.{Power}
 use Rattle.random.specs.declared.Supply.{Supply}
 use Rattle.random.specs.declared.DrawnReal.{DrawnReal}
 use Rattle.random.specs.Draw.{uniform, run, drawn_real}
-use Rattle.random.specs.DrawLaws.{bind-got, bind-spent}
+use Rattle.random.proofs.DrawLaws.{bind-got, bind-spent}
 use Rattle.tree.specs.Tree.{Tree, nodes_of, height}
 use Rattle.tree.specs.Valid.{Valid}
 use Rattle.tree.specs.Given.{tree_of, kin_in}

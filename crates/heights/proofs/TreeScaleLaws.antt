@@ -28,7 +28,7 @@ use Rattle.random.specs.declared.Random.{Random}
 use Rattle.random.specs.declared.Supply.{Supply}
 use Rattle.random.specs.declared.DrawnReal.{DrawnReal}
 use Rattle.random.specs.Draw.{Draw, uniform, got, run, supply_of, drawn_real}
-use Rattle.random.specs.DrawLaws.{bind-got, bind-spent}
+use Rattle.random.proofs.DrawLaws.{bind-got, bind-spent}
 use Rattle.tree.specs.Tree.{Tree, nodes_of, inner, height}
 use Rattle.tree.specs.declared.Verdict.{Verdict}
 use Rattle.tree.specs.declared.Verdict.TheVariants as Verdicts
@@ -46,7 +46,7 @@ use Rattle.calls.specs.Draws.{scaler, least}
 use Rattle.moves.specs.Programs.{overflows, tree_scale}
 use Rattle.calls.specs.Given.{After, after, after_on, turn_of, turned_back, answered_of}
 use Rattle.calls.specs.Harmless.{Unvalidated, Turning}
-use Rattle.calls.specs.EntryLaws.{unvalidated-refused, unvalidated-done}
+use Rattle.calls.proofs.EntryLaws.{unvalidated-refused, unvalidated-done}
 use Rattle.calls.specs.LeastLaws.{least-none, least_step, least-stop, least-some}
 use Rattle.heights.specs.Given.{heights_of, scalable, scaled_with, scaled_turn, scaled_by}
 use Rattle.random.specs.SupplyLaws.{real-got, real-spent}

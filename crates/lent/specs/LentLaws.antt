@@ -9,7 +9,7 @@ use Rattle.answer.specs.declared.Refusal.TheVariants.{Parameter}
 use Rattle.random.specs.Generator.{after}
 use Rattle.random.specs.Draw.{Drawn, spent, got, below, pick, countable, allowed, supply_of}
 use Rattle.random.specs.BelowCall.{turned_back, ended, below_call}
-use Rattle.random.specs.BelowCallLaws.{below-drawn}
+use Rattle.random.proofs.BelowCallLaws.{below-drawn}
 use Rattle.random.specs.declared.Random.{Random}
 use Rattle.random.specs.declared.DrawnBelow.{DrawnBelow}
 use Rattle.random.specs.declared.Below.TheVariants as Answers

@@ -14,7 +14,7 @@ use Rattle.tree.specs.declared.Verdict.{Verdict}
 use Rattle.tree.specs.declared.Verdict.TheVariants as Verdicts
 use Rattle.tree.specs.Tree.{Tree}
 use Rattle.calls.specs.Call.{Reply, Ending, refused, given, run_call, Outcome, declined, moved, Called, called_on, leaves}
-use Rattle.calls.specs.RunLaws.{run-refused}
+use Rattle.calls.proofs.RunLaws.{run-refused}
 use Rattle.moves.specs.Ends.{tree_after, Ends, moves, declines, refuses, root_after, tree_left}
 
 -- a call that passed its checks ends as moved, as declined, or in refusal 6, 7 or 8

@@ -3,11 +3,8 @@
 pub mod Programs
 pub mod Moves
 pub mod Explained
-pub mod ExplainedLaws
 pub mod Ends
 pub mod EndsLaws
 pub mod ScaleLaws
 pub mod StartLaws
 pub mod Rows
-pub mod Demands
-pub mod ChainLaws

@@ -9,7 +9,7 @@ use Rattle.random.specs.declared.Supply.{Supply}
 use Rattle.random.specs.Draw.{Drawn, spent, got, uniform, run, supply_of, allowed}
 use Rattle.random.specs.Lawful.{Yields}
 use Rattle.random.specs.UniformLaws.{UnitFraction}
-use Rattle.random.specs.DrawLaws.{return-yields, bind-yields, uniform-yields}
+use Rattle.random.proofs.DrawLaws.{return-yields, bind-yields, uniform-yields}
 use Rattle.tree.specs.Tree.{Tree, nodes_of}
 use Rattle.tree.specs.New.{Accepted}
 use Rattle.accepted.specs.AcceptedLaws.{accepted-valid}
@@ -19,8 +19,8 @@ use Rattle.calls.specs.Draws.{non_root}
 use Rattle.moves.specs.Programs.{Start, slide_start}
 use Rattle.moves.specs.Moves.{start_call, unvalidated_start}
 use Rattle.calls.specs.YieldLaws.{NonRoot, non-root-yields}
-use Rattle.calls.specs.CallLaws.{call-given}
-use Rattle.calls.specs.EntryLaws.{accepted-checked}
+use Rattle.calls.proofs.TreeCallLaws.{call-given}
+use Rattle.calls.proofs.EntryLaws.{accepted-checked}
 use Rattle.calls.specs.StepLaws.{number-yields}
 
 -- the node is not the root, and the uniforms are uniforms

@@ -2,3 +2,4 @@
 mod StoreLaws
 mod ByteLaws
 mod PassLaws
+pub mod FilingLaws

@@ -2,4 +2,3 @@
 pub mod Filing
 pub mod Passes
 pub mod CloseLaws
-pub mod FilingLaws

@@ -20,7 +20,7 @@ use Rattle.newick.specs.ReadingLaws.{occur, Accepts, accepted, not-accepted, occ
 use Rattle.newick_spell.specs.SpellingLaws.{spelled-reading}
 use Rattle.newick_file.specs.Filing.{most, closes, capped, lengths_in, seen_in}
 use Rattle.newick_file.specs.CloseLaws.{closes-whole}
-use Rattle.newick_file.specs.FilingLaws.{joins-capped, whole-filed}
+use Rattle.newick_file.proofs.FilingLaws.{joins-capped, whole-filed}
 use Rattle.newick_read.specs.Taking.{reach_at, ages_at, root_reach, root_ages, all_seen, place_call, deliver, judge_age, judge, work}
 use Rattle.newick_read.specs.HeldLaws.{Holds, lengths-length, held}
 use Rattle.newick_read.specs.LimitLaws.{seen-length, seen-occur, Low, cap-same, cap-back}

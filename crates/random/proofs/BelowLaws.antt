@@ -6,8 +6,8 @@ use Rattle.words.specs.declared.Wide.{Wide}
 use Rattle.words.specs.Words.{two_words}
 use Rattle.random.specs.Generator.{drawn_word}
 use Rattle.random.specs.Draw.{Number, word, map, fair_low, fair, below, below_other, Drawn, spent, got, onward, pick, supply_of, drawn_number}
-use Rattle.random.specs.DrawLaws.{until-spent, until-found, until-again, until-on, below-yields}
-use Rattle.random.specs.SupplyLaws.{word_none, word-one}
+use Rattle.random.proofs.DrawLaws.{until-spent, until-found, until-again, until-on, below-yields}
+use Rattle.random.proofs.WordLaws.{word_none, word-one}
 use Rattle.random.specs.declared.Random.{Random}
 use Rattle.random.specs.declared.Supply.{Supply}
 use Rattle.random.specs.declared.DrawnWord.{DrawnWord}

@@ -3,7 +3,7 @@ use Rattle.std.proofs.Common.{◌≡◌, ℕ, ◌-◌, ◌≤◌, Bool, true, fa
 use Rattle.answer.specs.declared.Refusal.TheVariants.{Parameter, Allowance}
 use Rattle.random.specs.Draw.{below, pick, countable, allowed, supply_of, drawn_number}
 use Rattle.random.specs.BelowCall.{turned_back, below_call}
-use Rattle.random.specs.DrawLaws.{pick-lawful}
+use Rattle.random.proofs.DrawLaws.{pick-lawful}
 use Rattle.random.specs.SupplyLaws.{number-got, number-spent}
 use Rattle.random.specs.declared.Random.{Random}
 use Rattle.random.specs.declared.Below.TheVariants as Answers

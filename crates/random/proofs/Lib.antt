@@ -5,3 +5,7 @@ mod StepLaws
 mod BelowLaws
 mod TakenLaws
 mod CallLaws
+pub mod DrawLaws
+pub mod BelowCallLaws
+pub mod WordLaws
+pub mod Rows

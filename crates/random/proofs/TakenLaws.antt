@@ -3,7 +3,7 @@ use Rattle.std.proofs.Common.{◌≡◌, ◌-◌, ◌<◌, ◌≤◌, true, fals
 use lib.Ieee.{binary64, of_bits}
 use Rattle.random.specs.Generator.{uniform_of, first_side, drawn_uniform, drawn_coin}
 use Rattle.random.specs.Draw.{uniform, coin, run, supply_of, drawn_real, drawn_side}
-use Rattle.random.specs.SupplyLaws.{taken_none, taken-one}
+use Rattle.random.proofs.WordLaws.{taken_none, taken-one}
 use Rattle.random.specs.declared.Supply.{Supply}
 use Rattle.random.specs.declared.DrawnUniform.{DrawnUniform}
 use Rattle.random.specs.declared.DrawnCoin.{DrawnCoin}

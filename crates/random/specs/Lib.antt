@@ -7,7 +7,5 @@ pub mod BelowCall
 pub mod Lawful
 pub mod SumLaws
 pub mod UniformLaws
-pub mod DrawLaws
 pub mod SupplyLaws
-pub mod BelowCallLaws
 pub mod Rows

@@ -1,35 +1,11 @@
--- Laws that join the code's structs to the definitions: one draw from a supply, and what a drawn number, float or side says of its definition. Assumes nothing.
-use Rattle.std.specs.Prelude.{◌≡◌, ℕ, suc, ◌-◌, ◌<◌, ◌≤◌, Bool, true, false, refl, Float}
+-- Laws that join the code's structs to the definitions: what a drawn number, float or side says of its definition. Assumes nothing.
+use Rattle.std.specs.Prelude.{◌≡◌, ℕ, Bool, true, false, refl, Float}
 use Rattle.std.proofs.Common.{sym, ap, ◌∙◌, true≢false}
-use native.Mathlib.Omega.{arith}
-use Rattle.random.specs.Generator.{word_of, next}
-use Rattle.random.specs.Draw.{word, return, draws, Drawn, spent, got, onward, word_from, pick, run, supply_of, drawn_number, drawn_real, drawn_side}
-use Rattle.random.specs.declared.Random.{Random}
+use Rattle.random.specs.Draw.{Drawn, spent, got, drawn_number, drawn_real, drawn_side}
 use Rattle.random.specs.declared.Supply.{Supply}
 use Rattle.random.specs.declared.DrawnNumber.{DrawnNumber}
 use Rattle.random.specs.declared.DrawnReal.{DrawnReal}
 use Rattle.random.specs.declared.DrawnSide.{DrawnSide}
-
--- ---- one draw
-
-module _ (g : Random) (left : ℕ) where
-  pub word_none : left ≤ 0 → pick word (supply_of g left) ≡ spent
-  unfolding pick word_from
-  word_none h = let z : left ≡ 0 = omega arith in rw z
-
-  pub word-one : 0 < left → pick word (supply_of g left) ≡ got (word_of g) (supply_of (next g) (left - 1))
-  unfolding pick word_from
-  word-one h = let z : left ≡ suc (left - 1) = omega arith in rw z (let y : suc (left - 1) - 1 ≡ left - 1 = omega arith in rw y)
-
--- a draw that is taken for a value
-module _ {A : Type 0} (f : ℕ → A) (g : Random) (left : ℕ) where
-  pub taken_none : left ≤ 0 → run (draws word (λ w. return (f w))) (supply_of g left) ≡ spent
-  unfolding run onward
-  taken_none h = rw (word_none g left h)
-
-  pub taken-one : 0 < left → run (draws word (λ w. return (f w))) (supply_of g left) ≡ got (f (word_of g)) (supply_of (next g) (left - 1))
-  unfolding run onward
-  taken-one h = rw (word-one g left h)
 
 -- ---- what a drawn number, float or side says of its definition
 

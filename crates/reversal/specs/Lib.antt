@@ -9,7 +9,6 @@ pub mod DatedLaws
 pub mod NodeHeightLaws
 pub mod ExchangeLaws
 pub mod WideLaws
-pub mod NarrowLaws
 pub mod GraftLaws
 pub mod GraftValidLaws
 pub mod WilsonLaws
@@ -18,7 +17,3 @@ pub mod SlideWayLaws
 pub mod SlideValidLaws
 pub mod SlideHeightLaws
 pub mod SlideOntoLaws
-pub mod SlideUpLaws
-pub mod SlideDownLaws
-pub mod SlideLaws
-pub mod Reversal

@@ -10,7 +10,7 @@ use Rattle.tree.specs.Tree.{Tree}
 use Rattle.tree.specs.Given.{tree_of}
 use Rattle.calls.specs.declared.Answered.{Answered}
 use Rattle.calls.specs.Call.{called, limited}
-use Rattle.calls.specs.EntryLaws.{unvalidated-refused}
+use Rattle.calls.proofs.EntryLaws.{unvalidated-refused}
 use Rattle.calls.specs.Given.{turned_back}
 use Rattle.moves.specs.Moves.{Move, subtree_slide, root_scale, tree_scale, limits, program, UnvalidatedCall, unvalidated_start}
 use Rattle.slide.specs.declared.Started.{Started}

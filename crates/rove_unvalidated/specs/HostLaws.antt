@@ -13,7 +13,7 @@ use Rattle.random.specs.Generator.{after}
 use Rattle.random.specs.Draw.{allowed}
 use Rattle.tree.specs.New.{Accepted}
 use Rattle.calls.specs.Call.{Called}
-use Rattle.calls.specs.RunLaws.{clash}
+use Rattle.calls.proofs.RunLaws.{clash}
 use Rattle.moves.specs.Moves.{Move, limits}
 use Rattle.moves.specs.StartLaws.{accepted-start}
 use Rattle.record.specs.Record.{is_record, generator_in, allowance_in, with_generator, replied, refused_reply, declined_reply, answered, proposed}

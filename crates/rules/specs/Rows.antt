@@ -3,7 +3,8 @@ use Rattle.std.specs.Prelude.{◌≡◌, refl, Bool, true, ℕ, eqb, Float}
 use Rattle.std.proofs.Math.Bool.{or-true}
 use Rattle.std.specs.Float.Ieee.{of_bits, lt, le, eq, sub}
 use Rattle.answer.specs.declared.Ratio.TheVariants.{Even, Counts, Lengths}
-use Rattle.random.specs.Rows.{GeneratorRows, generator-rows}
+use Rattle.random.specs.Rows.{GeneratorRows}
+use Rattle.random.proofs.Rows.{generator-rows}
 use Rattle.tree.specs.Tree.{parent, height, sibling, subtree}
 use Rattle.tree.specs.New.{new_tree, new_from, dated, scanned, joined, scan, visit, then_adopt, adopt, roots, misdated, lowest}
 use Rattle.edits.specs.Slots.{slot_of, owner, put, swap, rotate, set_height}

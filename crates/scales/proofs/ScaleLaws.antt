@@ -17,7 +17,7 @@ use Rattle.real.specs.Real as Real
 use Rattle.real.specs.Real.{is_not_negative}
 use Rattle.rules.specs.Rules.{within}
 use Rattle.calls.specs.Change.{proposed}
-use Rattle.calls.specs.ChangeLaws.{value-limits, value-spent, value-undrawn}
+use Rattle.calls.proofs.ChangeLaws.{value-limits, value-spent, value-undrawn}
 use Rattle.calls.specs.Draws.{scaler, tuned}
 use Rattle.scales.specs.declared.Scaled.{Scaled}
 use Rattle.scales.specs.Scales.{scale, scale_limits, scale_call}

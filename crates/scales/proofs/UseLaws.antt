@@ -15,7 +15,7 @@ use Rattle.real.specs.Real.{one, is_not_negative}
 use Rattle.real.specs.declared.Optional.{Optional}
 use Rattle.real.specs.declared.Optional.TheVariants.{Missing, Given}
 use Rattle.calls.specs.Change.{Change, proposed, value_call}
-use Rattle.calls.specs.ChangeLaws.{put_in, value-part, value-limits}
+use Rattle.calls.proofs.ChangeLaws.{put_in, value-part, value-limits}
 use Rattle.calls.specs.Draws.{tuned}
 use Rattle.speciation.specs.declared.Speciation.{Speciation}
 use Rattle.speciation.specs.declared.Speciation.TheVariants.{Yule, BirthDeath}

@@ -4,5 +4,4 @@ pub mod Scales
 pub mod Given
 pub mod SettledLaws
 pub mod Scalings
-pub mod ScalingLaws
 pub mod Rows

@@ -7,10 +7,10 @@ use Rattle.random.specs.declared.Random.{Random}
 use Rattle.random.specs.declared.Supply.{Supply}
 use Rattle.random.specs.declared.DrawnReal.{DrawnReal}
 use Rattle.random.specs.Draw.{Draw, return, uniform, spent, got, run, supply_of, allowed, drawn_real}
-use Rattle.random.specs.DrawLaws.{run-lawful, bind-got, bind-spent}
+use Rattle.random.proofs.DrawLaws.{run-lawful, bind-got, bind-spent}
 use Rattle.random.specs.SupplyLaws.{real-got, real-spent}
 use Rattle.calls.specs.Change.{Change, declined, scaled, proposed, value_call}
-use Rattle.calls.specs.ChangeLaws.{value-limits, value-declined, value-scaled, value-undrawn}
+use Rattle.calls.proofs.ChangeLaws.{value-limits, value-declined, value-scaled, value-undrawn}
 use Rattle.calls.specs.Draws.{scaler}
 use Rattle.scales.specs.declared.Scaled.{Scaled}
 use Rattle.scales.specs.Scales.{factored}

@@ -25,11 +25,11 @@ use Rattle.calls.specs.declared.Turn.{Turn}
 use Rattle.calls.specs.Call.{limited, called}
 use Rattle.calls.specs.Given.{after, turn_of, turned_back, answered_of}
 use Rattle.calls.specs.Harmless.{Turning}
-use Rattle.calls.specs.HarmlessLaws.{back-harmless}
+use Rattle.calls.proofs.HarmlessLaws.{back-harmless}
 use Rattle.moves.specs.Programs as Programs
 use Rattle.moves.specs.Programs.{slidable}
 use Rattle.moves.specs.Moves.{subtree_slide, UnvalidatedCall}
-use Rattle.calls.specs.EntryLaws.{passed, accepted-checked, unvalidated-refused, unvalidated-done}
+use Rattle.calls.proofs.EntryLaws.{passed, accepted-checked, unvalidated-refused, unvalidated-done}
 use Rattle.slide.specs.Slide.{Slidable}
 
 -- ---- the limits

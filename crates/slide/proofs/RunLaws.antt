@@ -10,7 +10,7 @@ use Rattle.answer.specs.declared.Ratio.{Ratio}
 use Rattle.answer.specs.declared.Ratio.TheVariants.{Even, Counts}
 use Rattle.random.specs.declared.Supply.{Supply}
 use Rattle.random.specs.Draw.{return, below, spent, got, pick, run}
-use Rattle.random.specs.DrawLaws.{draw-got, draw-spent}
+use Rattle.random.proofs.DrawLaws.{draw-got, draw-spent}
 use Rattle.tree.specs.Tree.{Tree, nodes_of, parent, height, sibling}
 use Rattle.tree.specs.Valid.{Valid}
 use Rattle.edits.specs.Slots.{set_height}

@@ -13,7 +13,7 @@ use Rattle.answer.specs.declared.Ratio.TheVariants.{Even, Counts}
 use Rattle.random.specs.declared.Supply.{Supply}
 use Rattle.random.specs.declared.DrawnNumber.{DrawnNumber}
 use Rattle.random.specs.Draw.{below, pick, run, drawn_number}
-use Rattle.random.specs.DrawLaws.{below-yields}
+use Rattle.random.proofs.DrawLaws.{below-yields}
 use Rattle.random.specs.SupplyLaws.{number-got, number-spent}
 use Rattle.real.specs.OrderLaws.{lt→le}
 use Rattle.tree.specs.Tree.{Tree, nodes_of, other_in, parent, height, sibling}

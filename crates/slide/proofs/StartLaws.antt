@@ -13,7 +13,7 @@ use Rattle.random.specs.declared.DrawnNumber.{DrawnNumber}
 use Rattle.random.specs.declared.DrawnReal.{DrawnReal}
 use Rattle.random.specs.Draw.{Draw, return, draw, ◌>>=◌, uniform, Drawn, spent, got, pick, run, supply_of, drawn_number, drawn_real}
 use Rattle.random.specs.Lawful.{Yields}
-use Rattle.random.specs.DrawLaws.{run-lawful, bind-got, bind-spent, draw-got, draw-spent, bind-yields, return-yields}
+use Rattle.random.proofs.DrawLaws.{run-lawful, bind-got, bind-spent, draw-got, draw-spent, bind-yields, return-yields}
 use Rattle.random.specs.SupplyLaws.{number-got, number-spent, real-got, real-spent}
 use Rattle.tree.specs.declared.Verdict.{Verdict}
 use Rattle.tree.specs.declared.Verdict.TheVariants as Verdicts
@@ -22,7 +22,7 @@ use Rattle.tree.specs.New.{validated}
 use Rattle.tree.specs.Given.{tree_of}
 use Rattle.calls.specs.Call.{Reply, makes, not_finite, outside, refused, ended, limited, run_call}
 use Rattle.calls.specs.Draws.{non_root}
-use Rattle.calls.specs.EntryLaws.{tree-refused, tree-accepted}
+use Rattle.calls.proofs.EntryLaws.{tree-refused, tree-accepted}
 use Rattle.moves.specs.Programs.{Start, slide_start}
 use Rattle.moves.specs.Moves.{start_call, unvalidated_start}
 use Rattle.moves.specs.StartLaws.{accepted-start}

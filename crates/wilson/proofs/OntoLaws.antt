@@ -24,7 +24,7 @@ use Rattle.calls.specs.declared.Turned.TheVariants as Turns
 use Rattle.moves.specs.Programs.{wilson_height, onto}
 use Rattle.calls.specs.Given.{After, after, turn_of, height_of}
 use Rattle.calls.specs.Harmless.{Turning}
-use Rattle.calls.specs.HeightLaws.{height-spent, height-inside, height-outside}
+use Rattle.calls.proofs.HeightLaws.{height-spent, height-inside, height-outside}
 use Rattle.grafts.specs.Given.{Regrafts}
 use Rattle.wilson.specs.Given.{barred, ranges_of, branch_height, Ranged}
 use Rattle.wilson.specs.declared.Ranges.{Ranges}

@@ -7,7 +7,7 @@ use lib.Ieee.{Float}
 use Rattle.random.specs.declared.Supply.{Supply}
 use Rattle.random.specs.declared.DrawnNumber.{DrawnNumber}
 use Rattle.random.specs.Draw.{Number, below, got, pick, run, drawn_number}
-use Rattle.random.specs.DrawLaws.{draw-got, draw-spent, until-yields, below-yields}
+use Rattle.random.proofs.DrawLaws.{draw-got, draw-spent, until-yields, below-yields}
 use Rattle.random.specs.SupplyLaws.{number-got, number-spent}
 use Rattle.tree.specs.Tree.{Tree, nodes_of, parent, height}
 use Rattle.tree.specs.Valid.{Valid}

@@ -1,6 +1,6 @@
 -- `exchanges::narrow` meets its contract. Assumes nothing.
 use borrow.Author.Rules.{rules}
-use Rattle.calls.specs.HarmlessLaws.{mild_laws}
+use Rattle.calls.proofs.HarmlessLaws.{mild_laws}
 use Rattle.exchanges.proofs.NarrowLaws.{narrow_laws}
 use Rattle.exchanges.proofs.narrow.Goals as goal
 

@@ -1,6 +1,6 @@
 -- `exchanges::narrow_exchange` meets its contract. Assumes nothing.
 use borrow.Author.Rules.{rules}
-use Rattle.calls.specs.EntryLaws.{entry_laws}
+use Rattle.calls.proofs.EntryLaws.{entry_laws}
 use Rattle.exchanges.proofs.narrow_exchange.Goals as goal
 
 pub validate-requires : goal.validate-requires

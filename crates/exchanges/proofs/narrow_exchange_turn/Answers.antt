@@ -1,6 +1,6 @@
 -- `exchanges::narrow_exchange_turn` meets its contract. Assumes nothing.
 use borrow.Author.Rules.{rules}
-use Rattle.calls.specs.HarmlessLaws.{mild_laws}
+use Rattle.calls.proofs.HarmlessLaws.{mild_laws}
 use Rattle.exchanges.proofs.NarrowLaws.{narrow_turn_laws}
 use Rattle.exchanges.proofs.narrow_exchange_turn.Goals as goal
 

@@ -1,6 +1,6 @@
 -- `exchanges::narrow_exchange_unvalidated` meets its contract. Assumes nothing.
 use borrow.Author.Rules.{rules}
-use Rattle.calls.specs.EntryLaws.{unvalidated_laws}
+use Rattle.calls.proofs.EntryLaws.{unvalidated_laws}
 use Rattle.exchanges.proofs.narrow_exchange_unvalidated.Goals as goal
 
 pub check_limits-requires : goal.check_limits-requires

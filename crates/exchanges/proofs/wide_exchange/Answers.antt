@@ -1,6 +1,6 @@
 -- `exchanges::wide_exchange` meets its contract. Assumes nothing.
 use borrow.Author.Rules.{rules}
-use Rattle.calls.specs.EntryLaws.{entry_laws}
+use Rattle.calls.proofs.EntryLaws.{entry_laws}
 use Rattle.exchanges.proofs.wide_exchange.Goals as goal
 
 pub validate-requires : goal.validate-requires

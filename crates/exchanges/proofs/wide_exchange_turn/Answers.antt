@@ -1,6 +1,6 @@
 -- `exchanges::wide_exchange_turn` meets its contract. Assumes nothing.
 use borrow.Author.Rules.{rules}
-use Rattle.calls.specs.HarmlessLaws.{mild_laws}
+use Rattle.calls.proofs.HarmlessLaws.{mild_laws}
 use Rattle.exchanges.proofs.WideLaws.{wide_laws}
 use Rattle.exchanges.proofs.wide_exchange_turn.Goals as goal
 

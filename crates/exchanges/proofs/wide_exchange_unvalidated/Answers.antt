@@ -1,6 +1,6 @@
 -- `exchanges::wide_exchange_unvalidated` meets its contract. Assumes nothing.
 use borrow.Author.Rules.{rules}
-use Rattle.calls.specs.EntryLaws.{unvalidated_laws}
+use Rattle.calls.proofs.EntryLaws.{unvalidated_laws}
 use Rattle.exchanges.proofs.wide_exchange_unvalidated.Goals as goal
 
 pub check_limits-requires : goal.check_limits-requires

@@ -1,6 +1,6 @@
 -- `heights::node_height` meets its contract. Assumes nothing.
 use borrow.Author.Rules.{rules}
-use Rattle.calls.specs.EntryLaws.{entry_laws}
+use Rattle.calls.proofs.EntryLaws.{entry_laws}
 use Rattle.heights.proofs.node_height.Goals as goal
 
 pub validate-requires : goal.validate-requires

@@ -1,6 +1,6 @@
 -- `heights::node_height_unvalidated` meets its contract. Assumes nothing.
 use borrow.Author.Rules.{rules}
-use Rattle.calls.specs.EntryLaws.{unvalidated_laws}
+use Rattle.calls.proofs.EntryLaws.{unvalidated_laws}
 use Rattle.heights.proofs.node_height_unvalidated.Goals as goal
 
 pub check_limits-requires : goal.check_limits-requires

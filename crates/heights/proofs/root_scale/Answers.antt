@@ -1,6 +1,6 @@
 -- `heights::root_scale` meets its contract. Assumes nothing.
 use borrow.Author.Rules.{rules}
-use Rattle.calls.specs.EntryLaws.{entry_laws}
+use Rattle.calls.proofs.EntryLaws.{entry_laws}
 use Rattle.heights.proofs.root_scale.Goals as goal
 
 pub validate-requires : goal.validate-requires

@@ -1,6 +1,6 @@
 -- `heights::root_scale_unvalidated` meets its contract. Assumes nothing.
 use borrow.Author.Rules.{rules}
-use Rattle.calls.specs.EntryLaws.{unvalidated_laws}
+use Rattle.calls.proofs.EntryLaws.{unvalidated_laws}
 use Rattle.heights.proofs.root_scale_unvalidated.Goals as goal
 
 pub is_tuned-limits-requires : goal.is_tuned-limits-requires

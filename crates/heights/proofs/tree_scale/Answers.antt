@@ -1,6 +1,6 @@
 -- `heights::tree_scale` meets its contract. Assumes nothing.
 use borrow.Author.Rules.{rules}
-use Rattle.calls.specs.EntryLaws.{entry_laws}
+use Rattle.calls.proofs.EntryLaws.{entry_laws}
 use Rattle.heights.proofs.tree_scale.Goals as goal
 
 pub validate-requires : goal.validate-requires

@@ -1,6 +1,6 @@
 -- `slide::slide_down` meets its contract. Assumes nothing.
 use borrow.Author.Rules.{rules}
-use Rattle.calls.specs.HarmlessLaws.{mild_laws}
+use Rattle.calls.proofs.HarmlessLaws.{mild_laws}
 use Rattle.slide.proofs.SlideLaws.{down-above, down-past, down-stays}
 use Rattle.slide.proofs.slide_down.Goals as goal
 

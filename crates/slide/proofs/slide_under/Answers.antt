@@ -1,6 +1,6 @@
 -- `slide::slide_under` meets its contract. Assumes nothing.
 use borrow.Author.Rules.{rules}
-use Rattle.calls.specs.HarmlessLaws.{mild_laws}
+use Rattle.calls.proofs.HarmlessLaws.{mild_laws}
 use Rattle.slide.proofs.SlideLaws.{under_none, under-spent, under_goes}
 use Rattle.slide.proofs.slide_under.Goals as goal
 

@@ -1,6 +1,6 @@
 -- `slide::slide_up` meets its contract. Assumes nothing.
 use borrow.Author.Rules.{rules}
-use Rattle.calls.specs.HarmlessLaws.{mild_laws}
+use Rattle.calls.proofs.HarmlessLaws.{mild_laws}
 use Rattle.slide.proofs.SlideLaws.{up-stays, up-goes}
 use Rattle.slide.proofs.slide_up.Goals as goal
 

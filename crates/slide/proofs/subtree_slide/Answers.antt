@@ -1,6 +1,6 @@
 -- `slide::subtree_slide` meets its contract. Assumes nothing.
 use borrow.Author.Rules.{rules}
-use Rattle.calls.specs.EntryLaws.{entry_laws}
+use Rattle.calls.proofs.EntryLaws.{entry_laws}
 use Rattle.slide.proofs.subtree_slide.Goals as goal
 
 pub returns-in-Fine : goal.returns-in-Fine

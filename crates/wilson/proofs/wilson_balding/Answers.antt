@@ -1,6 +1,6 @@
 -- `wilson::wilson_balding` meets its contract. Assumes nothing.
 use borrow.Author.Rules.{rules}
-use Rattle.calls.specs.EntryLaws.{entry_laws}
+use Rattle.calls.proofs.EntryLaws.{entry_laws}
 use Rattle.wilson.proofs.wilson_balding.Goals as goal
 
 pub returns-in-Refused : goal.returns-in-Refused

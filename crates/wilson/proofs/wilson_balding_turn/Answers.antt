@@ -1,6 +1,6 @@
 -- `wilson::wilson_balding_turn` meets its contract. Assumes nothing.
 use borrow.Author.Rules.{rules}
-use Rattle.calls.specs.HarmlessLaws.{mild_laws}
+use Rattle.calls.proofs.HarmlessLaws.{mild_laws}
 use Rattle.wilson.proofs.TurnLaws.{turn-spent-later, turn_laws}
 use Rattle.wilson.proofs.wilson_balding_turn.Goals as goal
 

@@ -1,6 +1,6 @@
 -- `wilson::wilson_balding_unvalidated` meets its contract. Assumes nothing.
 use borrow.Author.Rules.{rules}
-use Rattle.calls.specs.EntryLaws.{unvalidated_laws}
+use Rattle.calls.proofs.EntryLaws.{unvalidated_laws}
 use Rattle.wilson.proofs.wilson_balding_unvalidated.Goals as goal
 
 pub returns-in-Refused : goal.returns-in-Refused

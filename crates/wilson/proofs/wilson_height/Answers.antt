@@ -1,6 +1,6 @@
 -- `wilson::wilson_height` meets its contract. Assumes nothing.
 use borrow.Author.Rules.{rules}
-use Rattle.calls.specs.HarmlessLaws.{mild_laws}
+use Rattle.calls.proofs.HarmlessLaws.{mild_laws}
 use Rattle.wilson.proofs.OntoLaws.{height_laws}
 use Rattle.wilson.proofs.wilson_height.Goals as goal
 

@@ -1,6 +1,6 @@
 -- `wilson::wilson_onto` meets its contract. Assumes nothing.
 use borrow.Author.Rules.{rules}
-use Rattle.calls.specs.HarmlessLaws.{mild_laws}
+use Rattle.calls.proofs.HarmlessLaws.{mild_laws}
 use Rattle.wilson.proofs.OntoLaws.{onto_laws}
 use Rattle.wilson.proofs.wilson_onto.Goals as goal
 

@@ -9,7 +9,7 @@ use denote.Floats.{passes}
 use Rattle.answer.specs.declared.Ratio.TheVariants.{Even}
 use Rattle.random.specs.Draw.{until, below, coin, run}
 use Rattle.random.specs.Lawful.{Yields}
-use Rattle.random.specs.DrawLaws.{return-yields, bind-yields, until-yields, below-yields}
+use Rattle.random.proofs.DrawLaws.{return-yields, bind-yields, until-yields, below-yields}
 use Rattle.real.specs.Real.{max_of}
 use Rattle.tree.specs.Tree.{Tree, nodes_of, parent, height, sibling}
 use Rattle.tree.specs.Valid.{Valid}

@@ -21,7 +21,7 @@ use Rattle.tree.specs.Tree.{Tree}
 use Rattle.tree.specs.Given.{tree_of}
 use Rattle.accepted.specs.RefusalLaws.{AtMost}
 use Rattle.calls.specs.Call.{Reply, makes, not_finite, outside, Ending, refused, given, ended, draws_made, run_call, Outcome, declined, moved, called_on, leaves}
-use Rattle.calls.specs.RunLaws.{clash, run-given, run-steps, run-within, run-draws, run-larger, run-enough}
+use Rattle.calls.proofs.RunLaws.{clash, run-given, run-steps, run-within, run-draws, run-larger, run-enough}
 
 -- the call passed its checks, and its program's run ended in a reply
 pub record Replied (program : Draw (Reply Outcome)) (g : Random) (v : Verdict) (a : ℕ) (r : Reply Outcome) : Type 0 where

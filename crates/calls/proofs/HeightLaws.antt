@@ -5,7 +5,7 @@ use Rattle.std.proofs.Common.{sym, ap, ◌∙◌}
 use Rattle.random.specs.declared.Supply.{Supply}
 use Rattle.random.specs.declared.DrawnReal.{DrawnReal}
 use Rattle.random.specs.Draw.{uniform, spent, got, run, drawn_real}
-use Rattle.random.specs.DrawLaws.{bind-got, bind-spent}
+use Rattle.random.proofs.DrawLaws.{bind-got, bind-spent}
 use Rattle.random.specs.SupplyLaws.{real-got, real-spent}
 use Rattle.rules.specs.Rules.{within}
 use Rattle.calls.specs.declared.Height.{Height}
@@ -13,7 +13,7 @@ use Rattle.calls.specs.declared.Height.TheVariants as Heights
 use Rattle.calls.specs.Call.{Reply, makes, outside, Outcome}
 use Rattle.calls.specs.Draws.{interpolated, drawn_height}
 use Rattle.calls.specs.Given.{height_of}
-use Rattle.calls.specs.RunLaws.{clash}
+use Rattle.calls.proofs.RunLaws.{clash}
 
 -- r is the uniform, and h the height that it takes
 module _ (k : ℕ) (lower upper : Float) (make : Float → Outcome) (s : Supply) (r : DrawnReal) (e : r ≡ drawn_real s (run uniform s)) where

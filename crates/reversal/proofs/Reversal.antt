@@ -14,8 +14,8 @@ use Rattle.reversal.specs.Reversed.{returning, Reversed}
 use Rattle.reversal.specs.Back.{Kept, Keeps, Back, Reverses}
 use Rattle.reversal.specs.NodeHeightLaws.{node-height-keeps, node-height-reverses}
 use Rattle.reversal.specs.SlideValidLaws.{slide-keeps}
-use Rattle.reversal.specs.SlideLaws.{slide-reverses}
-use Rattle.reversal.specs.NarrowLaws.{narrow_keeps, narrow-reverses}
+use Rattle.reversal.proofs.SlideLaws.{slide-reverses}
+use Rattle.reversal.proofs.NarrowLaws.{narrow_keeps, narrow-reverses}
 use Rattle.reversal.specs.WideLaws.{wide-keeps, wide-reverses}
 use Rattle.reversal.specs.WilsonLaws.{wilson-keeps, wilson-reverses}
 

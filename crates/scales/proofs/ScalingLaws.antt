@@ -18,14 +18,14 @@ use Rattle.random.specs.declared.Supply.{Supply}
 use Rattle.random.specs.Generator.{uniform_of}
 use Rattle.random.specs.Draw.{return, uniform, run, got, supply_of, allowed}
 use Rattle.random.specs.Lawful.{Yields}
-use Rattle.random.specs.DrawLaws.{bind-got, return-yields, bind-yields}
-use Rattle.random.specs.SupplyLaws.{taken-one}
+use Rattle.random.proofs.DrawLaws.{bind-got, return-yields, bind-yields}
+use Rattle.random.proofs.WordLaws.{taken-one}
 use Rattle.real.specs.Real as Real
 use Rattle.real.specs.Real.{positive, is_not_negative}
 use Rattle.rules.specs.Rules.{within}
 use Rattle.calls.specs.Change.{Change, declined, scaled, in_place, on_part, Proposed, proposed}
-use Rattle.calls.specs.RunLaws.{clash}
-use Rattle.calls.specs.ChangeLaws.{value-limits, value-declined, value-scaled, value_made, value-unmade}
+use Rattle.calls.proofs.RunLaws.{clash}
+use Rattle.calls.proofs.ChangeLaws.{value-limits, value-declined, value-scaled, value_made, value-unmade}
 use Rattle.calls.specs.Chosen.{Factor}
 use Rattle.calls.specs.Draws.{tuned}
 use Rattle.calls.specs.FactorLaws.{chosen-positive}

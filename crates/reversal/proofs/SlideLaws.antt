@@ -16,8 +16,8 @@ use Rattle.reversal.specs.BranchLaws.{Climb, stops, goes, branches-sound}
 use Rattle.reversal.specs.SlideWayLaws.{Slides, up, level, down, slides, slid-only, ratio-only, slid-onto, ratio-up, ratio-down, Returns, returns-back}
 use Rattle.reversal.specs.SlideValidLaws.{down-apart, up-over, up-within, slide-keeps}
 use Rattle.reversal.specs.SlideHeightLaws.{Sliding, parent_node, sibling-kin, number-node, number-parent, number-sibling, number-grand, node-low, sibling-low, height-returns}
-use Rattle.reversal.specs.SlideUpLaws.{up-away, up-returns}
-use Rattle.reversal.specs.SlideDownLaws.{down-returns}
+use Rattle.reversal.proofs.SlideUpLaws.{up-away, up-returns}
+use Rattle.reversal.proofs.SlideDownLaws.{down-returns}
 
 module _ {n : ℕ} {t : Tree} {i : ℕ} {x : Float} (g : Sliding n t i x) (index : ℕ) where
   Returned : Type 0

@@ -18,12 +18,12 @@ use Rattle.random.specs.declared.Random.{Random}
 use Rattle.random.specs.declared.Supply.{Supply}
 use Rattle.random.specs.Generator.{after}
 use Rattle.random.specs.Draw.{Draw, return, Drawn, spent, got, onward, run, supply_of, allowed}
-use Rattle.random.specs.DrawLaws.{run_bind}
+use Rattle.random.proofs.DrawLaws.{run_bind}
 use Rattle.tree.specs.declared.Verdict.TheVariants as Verdicts
 use Rattle.calls.specs.Call.{Reply, makes, Ending, refused, given, ended, left_of, draws_made, limited, past, run_call}
 use Rattle.calls.specs.Change.{Change, declined, scaled, in_place, on_part, Proposed, proposed, keeps, replying, value_call}
-use Rattle.calls.specs.RunLaws.{clash, run-steps, run-within, run-draws, run-larger, run-enough}
-use Rattle.calls.specs.CallLaws.{allows}
+use Rattle.calls.proofs.RunLaws.{clash, run-steps, run-within, run-draws, run-larger, run-enough}
+use Rattle.calls.proofs.TreeCallLaws.{allows}
 
 -- ---- what a call leaves
 

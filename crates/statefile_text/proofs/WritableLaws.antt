@@ -22,7 +22,7 @@ use Rattle.statefile.specs.Lines.{Found, wrong, found, return, line, each, end}
 use Rattle.statefile.specs.StateFile.{Nodes, State, read, closed, real, words_of, move_of, slots, nodes_for, supplied, asked, head, tree, state, state_file}
 use Rattle.statefile_text.specs.StateText.{node_of, tuning_of, file_text, FourWords, is_real, FileTree, Writable}
 use Rattle.statefile_text.specs.ReadingLaws.{same-found, split, line_read, Every, each_read}
-use Rattle.statefile_text.specs.ReadBackLaws.{read_back}
+use Rattle.statefile_text.proofs.ReadBackLaws.{read_back}
 
 -- ---- the generator
 

@@ -15,7 +15,7 @@ use Rattle.random.specs.declared.DrawnSide.{DrawnSide}
 use Rattle.random.specs.Generator.{after}
 use Rattle.random.specs.Draw.{Number, Draw, Drawn, spent, got, pick, run, supply_of, allowed, drawn_number, drawn_real, drawn_side}
 use Rattle.random.specs.Lawful.{Stepped}
-use Rattle.random.specs.DrawLaws.{stepped-refl, stepped-trans, pick-lawful, run-lawful}
+use Rattle.random.proofs.DrawLaws.{stepped-refl, stepped-trans, pick-lawful, run-lawful}
 use Rattle.tree.specs.declared.Verdict.{Verdict}
 use Rattle.tree.specs.declared.Verdict.TheVariants as Verdicts
 use Rattle.tree.specs.Tree.{Tree}
@@ -23,7 +23,7 @@ use Rattle.tree.specs.Given.{tree_of}
 use Rattle.calls.specs.declared.Turned.TheVariants as Turns
 use Rattle.calls.specs.Call.{Reply, makes, not_finite, outside, Outcome, declined, moved, limited, Called, called, called_on}
 use Rattle.calls.specs.Given.{After, after_on, turn_of, answered_of}
-use Rattle.calls.specs.RunLaws.{clash}
+use Rattle.calls.proofs.RunLaws.{clash}
 use Rattle.calls.specs.Harmless.{SameLengths, Harmless, Mild, moves, declines, spends, overflows, strays}
 
 -- ---- drawing steps a supply

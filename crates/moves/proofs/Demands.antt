@@ -27,15 +27,15 @@ use Rattle.accepted.specs.ValidatedLaws.{fine-valid, valid-fine}
 use Rattle.rules.specs.Moves as Reversibles
 use Rattle.rules.specs.Moves.{Reversible}
 use Rattle.reversal.specs.Back.{Kept}
-use Rattle.reversal.specs.Reversal.{makes_kept, reversal}
+use Rattle.reversal.proofs.Reversal.{makes_kept, reversal}
 use Rattle.calls.specs.Call.{Reply, makes, not_finite, outside, draws_made, checked, call_of, Outcome, called_on, tree_call}
 use Rattle.calls.specs.Call as Call
-use Rattle.calls.specs.EntryLaws.{passed}
-use Rattle.calls.specs.CallLaws.{checked-few, allows, same-checks}
-use Rattle.calls.specs.LeavesLaws.{Replied, leaves-refused, leaves_kept, leaves-steps, leaves-within, leaves-draws, leaves-larger, leaves-enough, leaves-moved, leaves-declined, leaves-infinite, leaves-outside}
+use Rattle.calls.proofs.EntryLaws.{passed}
+use Rattle.calls.proofs.TreeCallLaws.{checked-few, allows, same-checks}
+use Rattle.calls.proofs.LeavesLaws.{Replied, leaves-refused, leaves_kept, leaves-steps, leaves-within, leaves-draws, leaves-larger, leaves-enough, leaves-moved, leaves-declined, leaves-infinite, leaves-outside}
 use Rattle.moves.specs.Moves.{Move, node_height, subtree_slide, narrow_exchange, wide_exchange, wilson_balding, root_scale, tree_scale, limits, program, move_call}
 use Rattle.moves.specs.Explained.{Admits, Admitted, Declined, Overflows, Strays, Explained, is_moved, is_declined, is_infinite, is_outside}
-use Rattle.moves.specs.ExplainedLaws.{explained}
+use Rattle.moves.proofs.ExplainedLaws.{explained}
 use Rattle.moves.specs.Ends.{tree_after, root_after, tree_left, TipsUnder, Present, Settled, Steady, Asked, tree_through, no_tree_scale, without_tree_scale, Ends, Reverses, of_node_height, of_subtree_slide, of_narrow_exchange, of_wide_exchange, of_wilson_balding, TakenBack}
 use Rattle.moves.specs.EndsLaws.{run_ends, left_so}
 use Rattle.moves.specs.ScaleLaws.{root-scales-kept, tree-scales-nodes, tree-scales-kept, tree-scales-present}

@@ -23,8 +23,8 @@ use Rattle.calls.specs.declared.Turn.{Turn}
 use Rattle.calls.specs.Call.{Reply, makes, not_finite, outside, Outcome, declined, moved, refused, ended, and_then, limited, checked, call_of, Called, called, leaves, tree_call}
 use Rattle.calls.specs.Given.{after, turn_of, turned_back, answered_of}
 use Rattle.calls.specs.Harmless.{Unvalidated, Turning}
-use Rattle.calls.specs.HarmlessLaws.{answering, refused-harmless, turn-harmless}
-use Rattle.calls.specs.RunLaws.{clash}
+use Rattle.calls.proofs.HarmlessLaws.{answering, refused-harmless, turn-harmless}
+use Rattle.calls.proofs.RunLaws.{clash}
 
 -- ---- a check that passed
 

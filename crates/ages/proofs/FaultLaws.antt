@@ -12,7 +12,7 @@ use Rattle.tree.specs.New.{counts, validated}
 use Rattle.tree.specs.LowestLaws.{Lowest, none, first, lowest-says, lowest-is}
 use Rattle.accepted.specs.RefusalLaws.{AtMost, validated-few}
 use Rattle.calls.specs.Call.{and_then}
-use Rattle.calls.specs.RunLaws.{clash}
+use Rattle.calls.proofs.RunLaws.{clash}
 use Rattle.process.specs.declared.FossilizedBirthDeath.{FossilizedBirthDeath}
 use Rattle.process.specs.Process.{process_finite}
 use Rattle.ages.specs.Ages.{at_fault, lowest_fault, or_parameter, table_then, table_checked, table_call}

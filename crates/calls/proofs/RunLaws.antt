@@ -13,7 +13,7 @@ use Rattle.random.specs.declared.Supply.{Supply}
 use Rattle.random.specs.Generator.{after}
 use Rattle.random.specs.Draw.{Draw, Drawn, spent, got, run, supply_of}
 use Rattle.random.specs.Lawful.{more}
-use Rattle.random.specs.DrawLaws.{run-lawful}
+use Rattle.random.proofs.DrawLaws.{run-lawful}
 use Rattle.tree.specs.declared.Verdict.{Verdict}
 use Rattle.tree.specs.declared.Verdict.TheVariants as Verdicts
 use Rattle.calls.specs.Call.{Reply, makes, not_finite, outside, refused, given, ended, left_of, draws_made, run_call}

@@ -12,16 +12,16 @@ use Rattle.answer.specs.declared.Proposal.TheVariants as Proposals
 use Rattle.random.specs.declared.Random.{Random}
 use Rattle.random.specs.Draw.{below, run, supply_of}
 use Rattle.random.specs.Lawful.{Yields}
-use Rattle.random.specs.DrawLaws.{below-yields}
+use Rattle.random.proofs.DrawLaws.{below-yields}
 use Rattle.real.specs.declared.Optional.{Optional}
 use Rattle.real.specs.declared.Optional.TheVariants.{Missing, Given}
 use Rattle.real.specs.Real.{positive}
 use Rattle.calls.specs.Change.{Change, declined, scaled}
-use Rattle.calls.specs.RunLaws.{clash}
-use Rattle.calls.specs.ChangeLaws.{value_made, value-unmade}
+use Rattle.calls.proofs.RunLaws.{clash}
+use Rattle.calls.proofs.ChangeLaws.{value_made, value-unmade}
 use Rattle.calls.specs.StepLaws.{number-yields}
 use Rattle.scales.specs.Scalings.{Declines, Placed, PartScales}
-use Rattle.scales.specs.ScalingLaws.{placed-yields, placed-made, placed-unmade}
+use Rattle.scales.proofs.ScalingLaws.{placed-yields, placed-made, placed-unmade}
 use Rattle.clocks.specs.Clocks.{clock_limits, clock_sigma, clock_sigma_call, branch_rate_of, branch_rate, branch_rate_call}
 
 -- ---- ClockSigmaScale

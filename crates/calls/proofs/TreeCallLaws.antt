@@ -14,8 +14,8 @@ use Rattle.tree.specs.Tree.{Tree}
 use Rattle.tree.specs.New.{validated}
 use Rattle.accepted.specs.RefusalLaws.{AtMost, either, validated-few, few-more}
 use Rattle.calls.specs.Call.{Reply, makes, refused, given, draws_made, and_then, limited, checked, call_of}
-use Rattle.calls.specs.EntryLaws.{Passed, passed}
-use Rattle.calls.specs.RunLaws.{run-given, run-steps, run-within, run-draws, run-larger, run-enough, run-refused}
+use Rattle.calls.proofs.EntryLaws.{Passed, passed}
+use Rattle.calls.proofs.RunLaws.{run-given, run-steps, run-within, run-draws, run-larger, run-enough, run-refused}
 
 -- from 1 to 65,535
 pub allows : (a : ℕ) → 1 ≤ a → a ≤ 65535 → allowed a ≡ true

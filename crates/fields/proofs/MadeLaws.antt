@@ -13,13 +13,13 @@ use Rattle.random.specs.declared.Random.{Random}
 use Rattle.random.specs.declared.Supply.{Supply}
 use Rattle.random.specs.Draw.{return, ◌>>=◌, run, got, supply_of}
 use Rattle.calls.specs.Change.{Change, declined, scaled, on_part}
-use Rattle.calls.specs.RunLaws.{clash}
-use Rattle.calls.specs.ChangeLaws.{value_made, value-unmade}
+use Rattle.calls.proofs.RunLaws.{clash}
+use Rattle.calls.proofs.ChangeLaws.{value_made, value-unmade}
 use Rattle.process.specs.declared.FossilizedBirthDeath.{FossilizedBirthDeath}
 use Rattle.process.specs.declared.ProcessPriors.{ProcessPriors}
 use Rattle.process.specs.Process.{estimates}
 use Rattle.scales.specs.Scalings.{Declines, Placed, PartScales}
-use Rattle.scales.specs.ScalingLaws.{placed-yields, placed-made, placed-unmade}
+use Rattle.scales.proofs.ScalingLaws.{placed-yields, placed-made, placed-unmade}
 use Rattle.fields.specs.declared.Field.{Field}
 use Rattle.fields.specs.Fields.{above, shifted, field, move_of, value_of, put, shift_of, fbd, fbd_limits, fbd_call}
 

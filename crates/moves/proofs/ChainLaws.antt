@@ -10,7 +10,7 @@ use Rattle.tree.specs.New.{Accepted}
 use Rattle.calls.specs.Call.{Called}
 use Rattle.moves.specs.Moves.{move_call, UnvalidatedCall}
 use Rattle.moves.specs.Ends.{tree_left, Present, Asked, tree_through, no_tree_scale, without_tree_scale, Chain, ends_here, then_call}
-use Rattle.moves.specs.Demands.{steady-still, steady-present, stays-accepted, stays-present, run-accepted, run-present}
+use Rattle.moves.proofs.Demands.{steady-still, steady-present, stays-accepted, stays-present, run-accepted, run-present}
 
 -- what one call leaves of an accepted tree is what the checked call leaves
 step : (a : Asked) (t : Tree) (c : Called) → Accepted t → UnvalidatedCall a.move t a.random a.allowance c
