@@ -14,20 +14,15 @@ use Rattle.text.specs.Text.{bytes, line_end}
 use Rattle.text.specs.Rules.{malformed, parsed, return, onward, ◌>>=◌, literal, fixed, decimal}
 use Rattle.text.specs.Places.{numbered}
 use Rattle.text.specs.declared.Number.{Number}
-use Rattle.text.specs.declared.Number.TheVariants as Number
 use Rattle.forms.specs.Forms.{entry, most_elsewhere}
 use Rattle.report.specs.Report.{Delivery, delivery, delivered}
 use Rattle.respond.specs.Respond.{file_reply}
 use Rattle.replay.specs.Replay.{taken, counted, case, cases_line, compared, within, replay_case, proceed, outcome, replayed}
 use Rattle.replay.specs.Given.{texted, Inside, stepped}
 use Rattle.replay.specs.declared.Compared.{Compared}
-use Rattle.replay.specs.declared.Compared.TheVariants as Compared
 use Rattle.replay.specs.declared.Span.{Span}
-use Rattle.replay.specs.declared.Span.TheVariants as Span
 use Rattle.replay.specs.declared.Step.{Step}
-use Rattle.replay.specs.declared.Step.TheVariants as Step
 use Rattle.replay.specs.declared.Outcome.{Outcome}
-use Rattle.replay.specs.declared.Outcome.TheVariants as Outcome
 
 -- ---- two texts, which are alike before the place i
 

@@ -3,9 +3,7 @@ use Rattle.std.specs.Prelude.{List, ℕ, ◌+◌, ◌-◌, ◌≤◌, ◌<◌, l
 use Rattle.text.specs.Rules.{Parsed, malformed, parsed}
 use Rattle.replay.specs.Replay.{Judged, broken, differs, alike}
 use Rattle.replay.specs.declared.Span.{Span}
-use Rattle.replay.specs.declared.Span.TheVariants as Span
 use Rattle.replay.specs.declared.Step.{Step}
-use Rattle.replay.specs.declared.Step.TheVariants as Step
 
 -- a text that a byte ends
 abbrev pub texted : List ℕ → Span → Parsed (List ℕ)

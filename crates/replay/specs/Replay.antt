@@ -6,9 +6,7 @@ use Rattle.text.specs.Rules.{Rule, Parsed, malformed, parsed, return, ◌>>=◌,
 use Rattle.forms.specs.Forms.{entry, most_elsewhere}
 use Rattle.respond.specs.Respond.{file_reply}
 use Rattle.replay.specs.declared.Compared.{Compared}
-use Rattle.replay.specs.declared.Compared.TheVariants as Compared
 use Rattle.replay.specs.declared.Outcome.{Outcome}
-use Rattle.replay.specs.declared.Outcome.TheVariants as Outcome
 
 -- ---- the data
 
