@@ -21,7 +21,7 @@
  * All other words stay as they came.
  *
  * The archives, for x86-64 Linux: librove.a has all of these functions, librove_newick.a the two of Newick copies alone. Each shows no other name and needs
- * the C library alone. The script hosts/archive makes them in target/archive, of the crates rove_c and rove_newick_c; a host links one of the two. */
+ * the C library alone. The script hosts/archive makes them in target/archive; a host links one of the two. */
 #ifndef ROVE_H
 #define ROVE_H
 

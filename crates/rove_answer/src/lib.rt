@@ -1,5 +1,5 @@
-// The function that C and Rust hosts call with a whole state file. It has no `requires`. Crate rove_c exports it, and include/rove.h declares it for
-// C. Assumes nothing.
+// The function that C and Rust hosts call with a whole state file. It has no `requires`. Crate rove_answer_c exports it, and include/rove.h declares it
+// for C. Assumes nothing.
 #![tactic(auto)]
 
 ghost use Rattle.std.specs.Prelude.{◌≡◌};

@@ -1,6 +1,6 @@
 // The functions that C and Rust hosts call for Newick copies: the text of a tree into a lent slice, and back into pairs and ages. Each takes the words of a
 // record (crate record) and then its slices, and returns the answer code: 0 done, 2 refused, 3 where there are not enough words for a record, which changes
-// nothing. Neither has a `requires`. Crates rove_c and rove_newick_c export them, and include/rove.h declares them for C. Assumes nothing.
+// nothing. Neither has a `requires`. Crate rove_newick_c exports them, and include/rove.h declares them for C. Assumes nothing.
 #![tactic(auto)]
 
 ghost use Rattle.std.specs.Prelude.{◌≡◌, ◌≤◌, length};

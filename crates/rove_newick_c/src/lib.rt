@@ -1,5 +1,5 @@
-// The two functions of Newick copies alone, for a host that calls no other, as a static library beside crate rove_c. Each calls the function of its name in crate
-// rove_newick, and promises what that promises. Assumes nothing.
+// The functions of crate rove_newick, exported to hosts in C and Rust: each calls the function of its name there, and promises what that promises. include/rove.h
+// declares them. Assumes nothing.
 #![tactic(auto)]
 
 ghost use Rattle.std.specs.Prelude.{◌≡◌};

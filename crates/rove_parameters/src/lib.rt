@@ -1,7 +1,7 @@
 // The functions that C and Rust hosts call for what moves beside a tree, and for what is asked of one: the proposals on parameters, the relaxed clock,
 // priors, the Yule density, tip dating and clades. Each takes the words of a record (crate record) and then its slices, with parameters in words 13 to 31
 // (crate record_parameters), and returns the answer code: 0 done, 1 declined, 2 refused, 3 where there are not enough words for a record, which changes
-// nothing. None has a `requires`. Crate rove_c exports them, and include/rove.h declares them for C. Assumes nothing.
+// nothing. None has a `requires`. Crate rove_parameters_c exports them, and include/rove.h declares them for C. Assumes nothing.
 #![tactic(auto)]
 
 ghost use Rattle.std.specs.Prelude.{◌≡◌, ◌≤◌, length};

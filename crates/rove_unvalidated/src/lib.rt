@@ -1,8 +1,8 @@
 // The moves for a host whose tree was accepted and has since been changed by moves alone: as those of `rove`, with the same record and answer code, but the tree is
 // not validated again. Parameters and allowance are checked. Where the slices are an accepted tree, each leaves what the checked function leaves. What a move leaves
 // is accepted again, but for TreeScale on a tree with a tip that is not at zero: a tip may then stand above its parent, and a checked call or `rove_validate` comes
-// next. On any other slices each ends, reads and writes nothing outside them, and is harmless (calls/Harmless). None has a `requires`. Crate rove_c exports
-// them, and include/rove.h declares them for C. Assumes nothing.
+// next. On any other slices each ends, reads and writes nothing outside them, and is harmless (calls/Harmless). None has a `requires`. Crate rove_unvalidated_c
+// exports them, and include/rove.h declares them for C. Assumes nothing.
 #![tactic(auto)]
 
 ghost use Rattle.std.specs.Prelude.{◌≡◌};

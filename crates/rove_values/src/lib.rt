@@ -1,7 +1,7 @@
 // The functions that C and Rust hosts call for single values of the port: a uniform and a coin, the factor of a scale, the table of moves, whether a move's
 // parameter is estimated, and the lengths of branches. Each takes the words of a record (crate record) and then its slices, and returns the answer code:
-// 0 done, 1 declined, 2 refused, 3 where there are not enough words for a record, which changes nothing. None has a `requires`. Crate rove_c exports them, and
-// include/rove.h declares them for C. Assumes nothing.
+// 0 done, 1 declined, 2 refused, 3 where there are not enough words for a record, which changes nothing. None has a `requires`. Crate rove_values_c exports them,
+// and include/rove.h declares them for C. Assumes nothing.
 #![tactic(auto)]
 
 ghost use Rattle.std.specs.Prelude.{◌≡◌, ◌≤◌, length};

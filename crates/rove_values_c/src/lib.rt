@@ -1,4 +1,7 @@
-// The functions of crate rove_values: a uniform and a coin, the factor of a scale, the table of moves, and the lengths of branches.
+// The functions of crate rove_values, exported to hosts in C and Rust: each calls the function of its name there, and promises what that promises. include/rove.h
+// declares them. Assumes nothing.
+#![tactic(auto)]
+
 ghost use Rattle.std.specs.Prelude.{◌≡◌};
 ghost use Rattle.record.specs.Record.{written};
 ghost use Rattle.rove_values.specs.Exports.{uniform_exported, coin_exported, scaler_exported, initial_tuning_exported, changes_fbd_exported, changes_tree_exported, changes_topology_exported, estimates_exported, branch_length_exported, tree_length_exported};

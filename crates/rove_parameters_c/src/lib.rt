@@ -1,4 +1,7 @@
-// The functions of crate rove_parameters: the proposals on parameters, the relaxed clock, priors, the Yule density, tip dating and clades.
+// The functions of crate rove_parameters, exported to hosts in C and Rust: each calls the function of its name there, and promises what that promises. include/rove.h
+// declares them. Assumes nothing.
+#![tactic(auto)]
+
 ghost use Rattle.std.specs.Prelude.{◌≡◌};
 ghost use Rattle.record.specs.Record.{written};
 ghost use Rattle.rove_parameters.specs.Exports.{scale_exported, clock_rate_exported, birth_difference_exported, birth_rate_exported, relative_death_exported, clock_sigma_exported, lent, branch_rate_scale_exported, fbd_exported, clock_exported, branch_rate_exported, set_sigma_exported, set_rate_exported, priors_exported, yule_exported, table_exported, initialize_exported, tip_age_exported, monophyly_exported, age_exported};

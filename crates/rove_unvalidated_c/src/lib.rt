@@ -1,4 +1,7 @@
-// The functions of crate rove_unvalidated: the moves on a tree that is not validated again.
+// The functions of crate rove_unvalidated, exported to hosts in C and Rust: each calls the function of its name there, and promises what that promises. include/rove.h
+// declares them. Assumes nothing.
+#![tactic(auto)]
+
 ghost use Rattle.std.specs.Prelude.{◌≡◌};
 ghost use Rattle.moves.specs.Moves.{node_height, subtree_slide, narrow_exchange, wide_exchange, wilson_balding, root_scale, tree_scale};
 ghost use Rattle.record.specs.Record.{written, node_in, tuning_in};
