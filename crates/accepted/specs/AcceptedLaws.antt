@@ -2,12 +2,10 @@
 -- and a valid tree passes (`passed-valid`, `valid-sizes`, `valid-dates`); what `Tree::new` made is of what it was given (`new-given`) and valid
 -- (`new-valid`), so an accepted tree is valid (`accepted-valid`); a valid tree is accepted (`valid-accepted`); and pairs and heights are those of
 -- one valid tree at most (`only-tree`). Assumes nothing.
-use Rattle.std.specs.Prelude.{◌≡◌, refl, Bool, true, false, cond, List, ℕ, ◌+◌, T, length, Float}
+use Rattle.std.specs.Prelude.{◌≡◌, refl, Bool, true, false, cond, List, ℕ, ◌+◌, T, length, Float, Result, Ok, Err}
 use Rattle.std.proofs.Common.{sym, ap, ◌∙◌, arith, le-leb, eq-eqb}
 use Rattle.answer.specs.declared.Refusal.{Refusal}
 use Rattle.answer.specs.declared.Refusal.TheVariants.{Size}
-use Rattle.tree.specs.declared.Verdict.{Verdict}
-use Rattle.tree.specs.declared.Verdict.TheVariants.{Fine, Refused}
 use Rattle.tree.specs.Tree.{Tree, nodes_of}
 use Rattle.tree.specs.New.{size_fits, Shaping, unshaped, shaping, shape_of, dates_of, refused, made, dated, new_from, new_tree, Accepted}
 use Rattle.tree.specs.Valid.{Valid}
@@ -20,7 +18,7 @@ use Rattle.accepted.specs.ShapeLaws.{shape-scanned, shape-linked, shape-joined, 
 
 -- a tree with fitting sizes, the parents and the root that its pairs give, and no height refused, is valid
 pub passed-valid : (n : ℕ) (t : Tree) → T (size_fits n t.pairs t.heights) → shape_of n t.pairs ≡ shaping t.parents t.root
-    → dates_of t ≡ Fine → Valid n t
+    → dates_of t ≡ (Ok tt) → Valid n t
 passed-valid n t fits shape fine =
     let z = fit_of n t.pairs t.heights fits in
     let s = shape-scanned n t.pairs t.parents t.root z.few shape in
@@ -47,7 +45,7 @@ module _ (n : ℕ) (t : Tree) (v : Valid n t) where
       rw (le-leb 3 n z.some, le-leb n 4095 z.few, z.odd, pairs, heights)
 
   -- no height of a valid tree is refused
-  pub valid-dates : dates_of t ≡ Fine
+  pub valid-dates : dates_of t ≡ (Ok tt)
   valid-dates = dated-fine n t v.sized.heights v.dated
 
 -- ---- what was made is valid
@@ -58,7 +56,7 @@ record Made (pairs : List ℕ) (heights : List Float) (t : Tree) : Type 0 where
   same_heights : t.heights ≡ heights
   fits : T (size_fits (nodes_of pairs) pairs heights)
   shape : shape_of (nodes_of pairs) pairs ≡ shaping t.parents t.root
-  fine : dates_of t ≡ Fine
+  fine : dates_of t ≡ (Ok tt)
 
 no-refusal : {why : Refusal} {t : Tree} → refused why ≡ made t → ⊥
 no-refusal e = let z : ◌≡◌ {A = ℕ} 0 1 = cc in omega arith
@@ -74,9 +72,9 @@ made_of pairs heights t e = by-sizes (size_fits n pairs heights) (λ h. h) e
     with ps r = record { pairs = pairs; parents = ps; heights = heights; root = r }
 
     by-dates : T (size_fits n pairs heights) → (ps : List ℕ) (r : ℕ) → shape_of n pairs ≡ shaping ps r
-        → (x : Verdict) → dates_of (with ps r) ≡ x → dated (with ps r) x ≡ made t → Made pairs heights t
-    by-dates h ps r s (Refused why) f e = absurd (no-refusal e)
-    by-dates h ps r s Fine f e =
+        → (x : Result (Unit {0}) Refusal) → dates_of (with ps r) ≡ x → dated (with ps r) x ≡ made t → Made pairs heights t
+    by-dates h ps r s (Err why) f e = absurd (no-refusal e)
+    by-dates h ps r s (Ok tt) f e =
         let q : with ps r ≡ t = cc in record {
           same_pairs = sym (λ i. (q i).pairs);
           same_heights = sym (λ i. (q i).heights);

@@ -1,5 +1,5 @@
 -- The test of the heights: none is refused exactly where the tree is dated (`fine-dated`, `dated-fine`). Assumes nothing.
-use Rattle.std.specs.Prelude.{◌≡◌, Bool, not, ◌&&◌, ◌||◌, ℕ, ◌<◌, eqb, length}
+use Rattle.std.specs.Prelude.{◌≡◌, Bool, not, ◌&&◌, ◌||◌, ℕ, ◌<◌, eqb, length, Ok}
 use Rattle.std.proofs.Common.{arith, eq-eqb, ne_eqb}
 use Rattle.std.proofs.Math.Decide.{ℕ_discrete}
 use Rattle.std.proofs.Math.Dec.{T}
@@ -8,7 +8,6 @@ use Rattle.std.specs.Float.Ieee.Bits.{is_true, is_false}
 use Rattle.std.specs.Float.Ieee.Scale.{finite}
 use Rattle.std.proofs.Math.Facts.{or_no, T_not-not}
 use Rattle.real.specs.Real as Real
-use Rattle.tree.specs.declared.Verdict.TheVariants.{Fine}
 use Rattle.tree.specs.Tree.{Tree, parent, height}
 use Rattle.tree.specs.New.{misdated, dates_of}
 use Rattle.tree.specs.Valid.{Dated}
@@ -23,11 +22,11 @@ abbrev beside : Tree → ℕ → Bool
 beside t c = not (eqb c t.root) && not (le (height t c) (height t (parent t c)))
 
 module _ (n : ℕ) (t : Tree) (sized : length t.heights ≡ n) where
-  sound : dates_of t ≡ Fine → (c : ℕ) → c < n → T (not (misdated t c))
+  sound : dates_of t ≡ (Ok tt) → (c : ℕ) → c < n → T (not (misdated t c))
   sound e c C = rw (lowest-fine (misdated t) _ (length t.heights) e c (omega arith)) tt
 
   -- a tree none of whose heights is refused is dated
-  pub fine-dated : dates_of t ≡ Fine → Dated n t
+  pub fine-dated : dates_of t ≡ (Ok tt) → Dated n t
   unfolding misdated
   fine-dated e = record {
     number = λ c C. T_not-not (finite (height t c)) (not-alone c C).1;
@@ -42,7 +41,7 @@ module _ (n : ℕ) (t : Tree) (sized : length t.heights ≡ n) where
       not-alone c C = or_no (lt (height t c) Real.zero) (not (finite (height t c))) (passes c C).0
 
   -- no height of a dated tree is refused
-  pub dated-fine : Dated n t → dates_of t ≡ Fine
+  pub dated-fine : Dated n t → dates_of t ≡ (Ok tt)
   dated-fine d = fine-lowest (misdated t) _ (length t.heights) (λ c C. is_false (misdated t c) (passes c (omega arith)))
     where
       not-beside : (c : ℕ) → c < n → T (not (beside t c))

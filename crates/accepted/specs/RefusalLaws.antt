@@ -1,20 +1,18 @@
 -- `validate` refuses with 1 to 4 and nothing else (`validated-few`), the lowest that is refused by its refusal's number (`lowest-few`); a bound for such a
 -- number may be weakened (`few-more`). Assumes nothing.
-use Rattle.std.specs.Prelude.{Bool, true, false, ◌&&◌, ◌||◌, cond, List, [], ◌∷◌, ℕ, zero, suc, ◌≤◌, leb, eqb, length, get_or, set}
+use Rattle.std.specs.Prelude.{Bool, true, false, ◌&&◌, ◌||◌, cond, List, [], ◌∷◌, ℕ, zero, suc, ◌≤◌, leb, eqb, length, get_or, set, Result, Ok, Err}
 use Rattle.std.proofs.Common.{arith}
 use Rattle.answer.specs.declared.Refusal.{Refusal}
 use Rattle.answer.specs.declared.Refusal.TheVariants.{Size, Shape, Disconnected, Height}
 use Rattle.answer.specs.Answers.{number_of}
-use Rattle.tree.specs.declared.Verdict.{Verdict}
-use Rattle.tree.specs.declared.Verdict.TheVariants as Verdicts
 use Rattle.tree.specs.Tree.{Tree, no_node, nodes_of, inner, first_in, second_in, subtree}
 use Rattle.tree.specs.New.{size_fits, Scan, stopped, filled, adopt, then_adopt, visit, scan, roots, only_root, unshaped, shaping, joined, scanned, misdated, lowest, agree, judged, validated}
 use Rattle.tree.specs.LowestLaws.{Lowest, none, first, lowest-says}
 
 -- it is fine, or a refusal with a number of at most m
-abbrev pub AtMost : ℕ → Verdict → Type 0
-AtMost m Verdicts.Fine = Unit {0}
-AtMost m (Verdicts.Refused why) = number_of why ≤ m
+abbrev pub AtMost : ℕ → Result (Unit {0}) Refusal → Type 0
+AtMost m (Ok tt) = Unit {0}
+AtMost m (Err why) = number_of why ≤ m
 
 -- a property of one of two
 pub either : {A : Type 0} (P : A → Type 0) (b : Bool) {x y : A} → P x → P y → P (cond b x y)
@@ -55,7 +53,7 @@ scan-few n pairs (suc m) = visit-few n pairs m (scan n pairs m) (scan-few n pair
 pub lowest-few : (n : ℕ) (test : ℕ → Bool) (why : ℕ → Refusal) → ((k : ℕ) → number_of (why k) ≤ n) → (m : ℕ) → AtMost n (lowest test why m)
 lowest-few n test why few m = said (lowest test why m) (lowest-says test why m)
   where
-    said : (v : Verdict) → Lowest test why m v → AtMost n v
+    said : (v : Result (Unit {0}) Refusal) → Lowest test why m v → AtMost n v
     said _ (none fails) = tt
     said _ (first k K e below) = few k
 
@@ -65,7 +63,7 @@ judged-few t n pairs (stopped why) h = h
 judged-few t n pairs (filled ps) h = root (roots ps (length ps))
   where
     shaped : (r : ℕ) (b : Bool) → (AtMost 4) (judged t (cond b (shaping ps r) (unshaped Disconnected)))
-    shaped r true = either (AtMost 4) (eqb r t.root && agree ps t.parents (length ps)) {y = Verdicts.Refused Disconnected} (lowest-few 4 (misdated t) Height (λ k. omega arith) (length t.heights)) (omega arith)
+    shaped r true = either (AtMost 4) (eqb r t.root && agree ps t.parents (length ps)) {y = Err Disconnected} (lowest-few 4 (misdated t) Height (λ k. omega arith) (length t.heights)) (omega arith)
     shaped r false = omega arith
 
     root : (rs : List ℕ) → (AtMost 4) (judged t (joined n pairs ps (only_root rs)))
@@ -78,10 +76,10 @@ pub validated-few : (t : Tree) → AtMost 4 (validated t)
 unfolding validated
 validated-few t =
     let n = nodes_of t.pairs in
-    either (AtMost 4) (size_fits n t.pairs t.heights && eqb (length t.parents) n) {y = Verdicts.Refused (Size n)}
+    either (AtMost 4) (size_fits n t.pairs t.heights && eqb (length t.parents) n) {y = Err (Size n)}
     (judged-few t n t.pairs (scan n t.pairs n) (scan-few n t.pairs n)) (omega arith)
 
 -- a larger bound holds too
-pub few-more : (m n : ℕ) → m ≤ n → (v : Verdict) → AtMost m v → AtMost n v
-few-more m n h Verdicts.Fine k = tt
-few-more m n h (Verdicts.Refused why) k = omega arith
+pub few-more : (m n : ℕ) → m ≤ n → (v : Result (Unit {0}) Refusal) → AtMost m v → AtMost n v
+few-more m n h (Ok tt) k = tt
+few-more m n h (Err why) k = omega arith

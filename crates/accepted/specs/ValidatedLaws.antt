@@ -1,12 +1,10 @@
 -- `validate` finds exactly the valid trees fine. In order: what it says that two lists agree (`agree_at`, `agree-self`); a tree that is
 -- fine is valid (`fine-valid`); a valid tree is fine (`valid-fine`). Assumes nothing.
-use Rattle.std.specs.Prelude.{◌≡◌, refl, Bool, true, false, ◌&&◌, cond, List, ℕ, zero, suc, ◌<◌, T, eqb, length, get_or}
+use Rattle.std.specs.Prelude.{◌≡◌, refl, Bool, true, false, ◌&&◌, cond, List, ℕ, zero, suc, ◌<◌, T, eqb, length, get_or, Result, Ok, Err}
 use Rattle.std.proofs.Common.{sym, ◌∙◌, arith, eqb→eq, ext_get_or, eq-eqb}
 use Rattle.std.proofs.Math.Decide.{ℕ_discrete}
 use Rattle.std.specs.Float.Ieee.Fits.{and_l, and_r}
 use Rattle.answer.specs.declared.Refusal.{Refusal}
-use Rattle.tree.specs.declared.Verdict.{Verdict}
-use Rattle.tree.specs.declared.Verdict.TheVariants.{Fine, Refused}
 use Rattle.tree.specs.Tree.{Tree, nodes_of}
 use Rattle.tree.specs.New.{size_fits, Shaping, unshaped, shaping, shape_of, agree, judged, validated}
 use Rattle.tree.specs.Valid.{Valid}
@@ -35,12 +33,12 @@ agree-self a (suc m) = rw (agree-self a m, eq-eqb (get_or a m 0) (get_or a m 0) 
 
 -- ---- what is fine is valid
 
-if-fine : (b : Bool) (s : Verdict) (why : Refusal) → cond b s (Refused why) ≡ Fine → T b × (s ≡ Fine)
+if-fine : (b : Bool) (s : Result (Unit {0}) Refusal) (why : Refusal) → cond b s (Err why) ≡ (Ok tt) → T b × (s ≡ (Ok tt))
 if-fine true s why e = (tt, e)
 if-fine false s why e = let z : ◌≡◌ {A = ℕ} 0 1 = cc in absurd (omega arith)
 
 -- a tree that `validate` finds fine is valid
-pub fine-valid : (t : Tree) → validated t ≡ Fine → Valid (nodes_of t.pairs) t
+pub fine-valid : (t : Tree) → validated t ≡ (Ok tt) → Valid (nodes_of t.pairs) t
 unfolding validated judged
 fine-valid t e =
     let many = eqb (length t.parents) n in
@@ -53,7 +51,7 @@ fine-valid t e =
     fits : Bool
     fits = size_fits n t.pairs t.heights
 
-    by_shape : T fits → length t.parents ≡ n → (s : Shaping) → shape_of n t.pairs ≡ s → judged t s ≡ Fine → Valid n t
+    by_shape : T fits → length t.parents ≡ n → (s : Shaping) → shape_of n t.pairs ≡ s → judged t s ≡ (Ok tt) → Valid n t
     by_shape h l (unshaped why) f e = let z : ◌≡◌ {A = ℕ} 0 1 = cc in absurd (omega arith)
     by_shape h l (shaping ps r) f e =
         let root = eqb r t.root in
@@ -67,7 +65,7 @@ fine-valid t e =
 -- ---- what is valid is fine
 
 -- `validate` finds a valid tree fine
-pub valid-fine : (n : ℕ) (t : Tree) → Valid n t → validated t ≡ Fine
+pub valid-fine : (n : ℕ) (t : Tree) → Valid n t → validated t ≡ (Ok tt)
 unfolding validated judged
 valid-fine n t v =
     rw (

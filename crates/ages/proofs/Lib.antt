@@ -1,4 +1,3 @@
 -- The laws that the proofs of ages share: one for each way through a function.
-mod AgeLaws
 mod TableLaws
 pub mod FaultLaws

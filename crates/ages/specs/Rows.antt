@@ -1,10 +1,9 @@
 -- The rules on a tip's ages, and the call on a table by itself, as rows of one statement on the definitions (`age-rows`). Assumes nothing.
-use Rattle.std.specs.Prelude.{◌≡◌, refl, Bool, true, false, List, [], ◌∷◌, Float}
+use Rattle.std.specs.Prelude.{◌≡◌, refl, Bool, true, false, [], ◌∷◌, Float, Ok, Err}
 use Rattle.std.specs.Float.{nan, binary64}
 use Rattle.std.specs.Float.Ieee.{of_bits, lt, le, eq}
 use Rattle.answer.specs.declared.Refusal.TheVariants.{Size, Parameter}
 use Rattle.real.specs.Real as Real
-use Rattle.tree.specs.declared.Verdict.TheVariants as Verdicts
 use Rattle.tree.specs.New.{lowest}
 use Rattle.rules.specs.Samples.{0·0, −0·0, 0·5, 1·0, 2·0}
 use Rattle.process.specs.declared.FossilizedBirthDeath.{FossilizedBirthDeath}
@@ -56,17 +55,17 @@ pub record AgeRows : Type 0 where
   pub fossil_unsampled : Faulty 1·0 2·0 0·0 ≡ false
   pub all_sampled : Faulty 0·0 0·0 1·0 ≡ false
   -- the call: the number of nodes, the lengths of the table, its tips, then the fields of the process
-  pub even_count : table_call 4 (2·0 ∷ 0·0 ∷ []) (1·0 ∷ 0·0 ∷ []) (process 1·0 0·5) ≡ Verdicts.Refused (Size 4)
-  pub short_table : table_call 5 (0·0 ∷ 2·0 ∷ []) (0·0 ∷ 1·0 ∷ 0·0 ∷ []) (process 1·0 0·5) ≡ Verdicts.Refused (Size 5)
-  pub short_greatest : table_call 5 (0·0 ∷ 0·0 ∷ 0·0 ∷ []) (0·0 ∷ 0·0 ∷ []) (process 1·0 0·5) ≡ Verdicts.Refused (Size 5)
-  pub fine_table : table_call 3 (0·0 ∷ 0·0 ∷ []) (0·0 ∷ 0·0 ∷ []) (process 1·0 0·5) ≡ Verdicts.Fine
-  pub field_infinite : table_call 3 (0·0 ∷ 0·0 ∷ []) (0·0 ∷ 0·0 ∷ []) (process Real.infinity 0·5) ≡ Verdicts.Refused (Parameter 0)
-  pub tip_first : table_call 3 (0·0 ∷ 2·0 ∷ []) (0·0 ∷ 1·0 ∷ []) (process Real.infinity 0·5) ≡ Verdicts.Refused (Parameter 1)
+  pub even_count : table_call 4 (2·0 ∷ 0·0 ∷ []) (1·0 ∷ 0·0 ∷ []) (process 1·0 0·5) ≡ Err (Size 4)
+  pub short_table : table_call 5 (0·0 ∷ 2·0 ∷ []) (0·0 ∷ 1·0 ∷ 0·0 ∷ []) (process 1·0 0·5) ≡ Err (Size 5)
+  pub short_greatest : table_call 5 (0·0 ∷ 0·0 ∷ 0·0 ∷ []) (0·0 ∷ 0·0 ∷ []) (process 1·0 0·5) ≡ Err (Size 5)
+  pub fine_table : table_call 3 (0·0 ∷ 0·0 ∷ []) (0·0 ∷ 0·0 ∷ []) (process 1·0 0·5) ≡ (Ok tt)
+  pub field_infinite : table_call 3 (0·0 ∷ 0·0 ∷ []) (0·0 ∷ 0·0 ∷ []) (process Real.infinity 0·5) ≡ Err (Parameter 0)
+  pub tip_first : table_call 3 (0·0 ∷ 2·0 ∷ []) (0·0 ∷ 1·0 ∷ []) (process Real.infinity 0·5) ≡ Err (Parameter 1)
   -- the tip that is named: the first of two by one rule, the last alone, and the first of two by different rules, whichever of them comes first
-  pub lowest_of_two : table_call 5 (0·0 ∷ 2·0 ∷ 2·0 ∷ []) (0·0 ∷ 1·0 ∷ 1·0 ∷ []) (process 1·0 0·5) ≡ Verdicts.Refused (Parameter 1)
-  pub last_alone : table_call 5 (0·0 ∷ 0·0 ∷ 2·0 ∷ []) (0·0 ∷ 0·0 ∷ 1·0 ∷ []) (process 1·0 0·5) ≡ Verdicts.Refused (Parameter 2)
-  pub ages_then_sampling : table_call 5 (1·0 ∷ 2·0 ∷ 0·0 ∷ []) (1·0 ∷ 1·0 ∷ 0·0 ∷ []) (process 1·0 0·0) ≡ Verdicts.Refused (Parameter 1)
-  pub sampling_then_ages : table_call 5 (1·0 ∷ 0·0 ∷ 2·0 ∷ []) (1·0 ∷ 0·0 ∷ 1·0 ∷ []) (process 1·0 0·0) ≡ Verdicts.Refused (Parameter 1)
+  pub lowest_of_two : table_call 5 (0·0 ∷ 2·0 ∷ 2·0 ∷ []) (0·0 ∷ 1·0 ∷ 1·0 ∷ []) (process 1·0 0·5) ≡ Err (Parameter 1)
+  pub last_alone : table_call 5 (0·0 ∷ 0·0 ∷ 2·0 ∷ []) (0·0 ∷ 0·0 ∷ 1·0 ∷ []) (process 1·0 0·5) ≡ Err (Parameter 2)
+  pub ages_then_sampling : table_call 5 (1·0 ∷ 2·0 ∷ 0·0 ∷ []) (1·0 ∷ 1·0 ∷ 0·0 ∷ []) (process 1·0 0·0) ≡ Err (Parameter 1)
+  pub sampling_then_ages : table_call 5 (1·0 ∷ 0·0 ∷ 2·0 ∷ []) (1·0 ∷ 0·0 ∷ 1·0 ∷ []) (process 1·0 0·0) ≡ Err (Parameter 1)
 
 -- each by computation
 pub age-rows : AgeRows

@@ -5,12 +5,11 @@
 ghost use Rattle.std.specs.Prelude.{◌≡◌, ◌&&◌, ◌<◌, eqb, length};
 ghost use Rattle.tree.specs.Tree.{tips_of};
 ghost use Rattle.tree.specs.New.{counts};
-ghost use Rattle.tree.specs.Given.{tree_of};
 ghost use Rattle.ages.specs.Ages.{age_of, misaged, unsampled, at_fault, lowest_fault, table_then, table_checked, table_call};
 
 use answer::Refusal;
 use process::FossilizedBirthDeath;
-use tree::Verdict;
+use tree::Tree;
 
 // The least and the greatest age of a tip, or of the interval that is left to it under its parent.
 #[derive(Clone, Copy)]
@@ -37,31 +36,20 @@ pub fn age_of(minima: &[f64], maxima: &[f64], tip: usize) -> TipAge
 }
 
 // Whether a tip has neither a fixed age nor an interval of ages that is younger than the origin and does not include the present.
+#[tactic(auto, unfolding(crate::specs::Ages::misaged))]
 fn is_misaged(origin: f64, age: TipAge) -> bool
     ensures { result ≡ misaged origin age }
 {
-    if real::is_finite(age.minimum) {
-        if real::is_finite(age.maximum) {
-            if age.minimum < 0.0 {
-                return true;
-            }
-            if age.maximum < age.minimum {
-                return true;
-            }
-            if origin <= age.maximum {
-                return true;
-            }
-            if age.minimum == 0.0 {
-                return 0.0 < age.maximum;
-            }
-            return false;
-        }
-        return true;
-    }
-    true
+    !real::is_finite(age.minimum)
+        || !real::is_finite(age.maximum)
+        || age.minimum < 0.0
+        || age.maximum < age.minimum
+        || origin <= age.maximum
+        || (age.minimum == 0.0 && 0.0 < age.maximum)
 }
 
 // Whether a tip is at the present where nothing is sampled there.
+#[tactic(auto, unfolding(crate::specs::Ages::unsampled))]
 fn is_unsampled(sampling: f64, age: TipAge) -> bool
     ensures { result ≡ unsampled sampling age }
 {
@@ -69,50 +57,48 @@ fn is_unsampled(sampling: f64, age: TipAge) -> bool
 }
 
 // Whether a tip is against either of the rules on ages.
+#[tactic(auto, unfolding(crate::specs::Ages::at_fault))]
 fn is_at_fault(minima: &[f64], maxima: &[f64], process: FossilizedBirthDeath, tip: usize) -> bool
     ensures { result ≡ at_fault process minima.now maxima.now tip }
 {
     let age = age_of(minima, maxima, tip);
-    if is_misaged(process.origin, age) {
-        return true;
-    }
-    is_unsampled(process.present_sampling, age)
+    is_misaged(process.origin, age) || is_unsampled(process.present_sampling, age)
 }
 
 // Whether the tips of a table are in order, or the lowest that is not.
-fn judge(minima: &[f64], maxima: &[f64], process: FossilizedBirthDeath, tips: usize) -> Verdict
+#[tactic(auto, using(tree::specs::LowestLaws::lowest_laws))]
+fn judge(
+    minima: &[f64],
+    maxima: &[f64],
+    process: FossilizedBirthDeath,
+    tips: usize,
+) -> Result<(), Refusal>
     ensures { result ≡ lowest_fault process minima.now maxima.now tips }
 {
-    let mut tip = 0;
-    while tip < tips {
+    for tip in 0..tips {
         if is_at_fault(minima, maxima, process, tip) {
-            return Verdict::Refused(Refusal::Parameter(tip));
+            return Err(Refusal::Parameter(tip));
         }
-        tip += 1;
     }
-    Verdict::Fine
+    Ok(())
 }
 
 // The tips of a table, then whether the other parameters of the call are within their limits.
+#[tactic(auto, using(crate::proofs::TableLaws::table_laws))]
 fn check_table(
     minima: &[f64],
     maxima: &[f64],
     process: FossilizedBirthDeath,
     tips: usize,
     limits: bool,
-) -> Verdict
+) -> Result<(), Refusal>
     ensures { result ≡ table_then process minima.now maxima.now tips limits }
 {
-    match judge(minima, maxima, process, tips) {
-        Verdict::Refused(why) => {
-            return Verdict::Refused(why);
-        }
-        Verdict::Fine => {
-            if limits {
-                return Verdict::Fine;
-            }
-            return Verdict::Refused(Refusal::Parameter(0));
-        }
+    judge(minima, maxima, process, tips)?;
+    if limits {
+        Ok(())
+    } else {
+        Err(Refusal::Parameter(0))
     }
 }
 
@@ -127,58 +113,43 @@ fn is_sized(minima: &[f64], maxima: &[f64], tips: usize) -> bool
 fn is_count(nodes: usize) -> bool
     ensures { result ≡ counts nodes }
 {
-    if nodes < 3 {
-        return false;
-    }
-    if 4095 < nodes {
-        return false;
-    }
-    nodes % 2 == 1
+    3 <= nodes && nodes <= 4095 && nodes % 2 == 1
 }
 
 // The table by itself, for a tree of so many nodes.
+#[tactic(auto, using(crate::proofs::TableLaws::validate_laws))]
 pub fn validate(
     minima: &[f64],
     maxima: &[f64],
     process: FossilizedBirthDeath,
     nodes: usize,
-) -> Verdict
+) -> Result<(), Refusal>
     ensures { result ≡ table_call nodes minima.now maxima.now process }
 {
-    if is_count(nodes) {
-        let tips = tips(nodes);
-        if is_sized(minima, maxima, tips) {
-            return check_table(minima, maxima, process, tips, process.is_finite());
-        }
-        return Verdict::Refused(Refusal::Size(nodes));
+    let tips = tips(nodes);
+    if is_count(nodes) && is_sized(minima, maxima, tips) {
+        check_table(minima, maxima, process, tips, process.is_finite())
+    } else {
+        Err(Refusal::Size(nodes))
     }
-    Verdict::Refused(Refusal::Size(nodes))
 }
 
 // The checks of a call on a tree with a table, in the order of the refusals; `limits` is whether its other parameters are within theirs.
+#[tactic(auto, using(crate::proofs::TableLaws::check_laws))]
 pub fn check(
-    pairs: &[u16],
-    parents: &[u16],
-    heights: &[f64],
-    root: usize,
+    tree: &Tree<'_>,
     minima: &[f64],
     maxima: &[f64],
     process: FossilizedBirthDeath,
     limits: bool,
-) -> Verdict
-    ensures { result ≡ table_checked process minima.now maxima.now (tree_of pairs.now parents.now heights.now root) limits }
+) -> Result<(), Refusal>
+    ensures { result ≡ table_checked process minima.now maxima.now tree.now limits }
 {
-    let nodes = pairs.len() / 2;
+    let nodes = tree.pairs.len() / 2;
     let tips = tips(nodes);
-    if is_sized(minima, maxima, tips) {
-        match quick::validate(pairs, parents, heights, root) {
-            Verdict::Refused(why) => {
-                return Verdict::Refused(why);
-            }
-            Verdict::Fine => {
-                return check_table(minima, maxima, process, tips, limits);
-            }
-        }
+    if !is_sized(minima, maxima, tips) {
+        return Err(Refusal::Size(nodes));
     }
-    Verdict::Refused(Refusal::Size(nodes))
+    quick::validate(tree)?;
+    check_table(minima, maxima, process, tips, limits)
 }

@@ -7,7 +7,6 @@ use Rattle.random.specs.Draw.{Draw}
 use Rattle.random.proofs.DrawLaws.{allows}
 use Rattle.random.specs.BelowCall.{below_call}
 use Rattle.random.proofs.BelowCallLaws.{below-larger}
-use Rattle.lent.specs.Lent.{lent_below}
 use Rattle.tree.specs.Tree.{Tree}
 use Rattle.calls.specs.Call.{Ending, limited}
 use Rattle.calls.specs.Change.{Change, value_call}
@@ -53,7 +52,7 @@ value-lasting limits program v g a b h o k n = value-larger limits program v g a
 pub lasting-calls : LastingCalls
 lasting-calls = record {
   below = below-lasting;
-  below_lent = λ g n answer found e. alike (λ d. below_number d.answer) (λ a. lent_below (answer a) (found a)) (below_call g n) e (below-lasting g n);
+  below_lent = λ g n answer found e. alike (λ d. below_number d.0) (λ a. (answer a, found a)) (below_call g n) e (below-lasting g n);
   move = move-lasting;
   move_unvalidated = λ m t g v call c. alike (λ d. answer_number d.answer) call (move_call m t g) (λ a. (c a).decided v) (move-lasting m t g);
   slide-start = start-lasting;

@@ -1,17 +1,15 @@
 -- Request S-5, "A bigger allowance", of one call: "If a call (by values; a longer file may be a 9) with some allowance of 1 or more is moved or declined, the
 -- same call with any larger allowance up to 65,535 gives the same answer, tree, generator and draw count. If it is refused with 7 or 8 it stays so. Only a 6
 -- may turn into something else." Definitions only. Assumes nothing.
-use Rattle.std.specs.Prelude.{◌≡◌, ◌≢◌, cond, List, ℕ, ◌≤◌, eqb, set}
+use Rattle.std.specs.Prelude.{◌≡◌, ◌≢◌, cond, List, ℕ, ◌≤◌, eqb, set, Result, Ok, Err}
 use Rattle.answer.specs.declared.Answer.{Answer}
 use Rattle.answer.specs.declared.Answer.TheVariants as Answers
 use Rattle.answer.specs.declared.Proposal.{Proposal}
 use Rattle.answer.specs.declared.Proposal.TheVariants as Proposals
 use Rattle.answer.specs.Answers.{number_of}
-use Rattle.random.specs.declared.Below.{Below}
-use Rattle.random.specs.declared.Below.TheVariants as Belows
-use Rattle.slide.specs.declared.Begun.{Begun}
-use Rattle.slide.specs.declared.Begun.TheVariants as Begins
 use Rattle.record.specs.Record.{word_in, Written, written}
+use Rattle.answer.specs.declared.Refusal.{Refusal}
+use Rattle.slide.specs.declared.SlideNode.{SlideNode}
 
 -- ---- a call by values
 
@@ -31,13 +29,13 @@ proposal_number (Proposals.Scaled draws r) = 0
 proposal_number (Proposals.Declined draws) = 0
 proposal_number (Proposals.Refused why) = number_of why
 
-abbrev pub below_number : Below → ℕ
-below_number (Belows.Drawn k draws) = 0
-below_number (Belows.Refused why) = number_of why
+abbrev pub below_number : Result (ℕ × ℕ) Refusal → ℕ
+below_number (Ok (k, draws)) = 0
+below_number (Err why) = number_of why
 
-abbrev pub begun_number : Begun → ℕ
-begun_number (Begins.Node s) = 0
-begun_number (Begins.Refused why) = number_of why
+abbrev pub begun_number : Result SlideNode Refusal → ℕ
+begun_number (Ok s) = 0
+begun_number (Err why) = number_of why
 
 -- ---- an exported function
 

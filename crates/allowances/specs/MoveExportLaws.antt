@@ -1,5 +1,5 @@
 -- Request S-5 of the exported functions of a generator and a tree: `below`, the seven moves, a slide's first call, and the unvalidated ones. Assumes nothing.
-use Rattle.std.specs.Prelude.{◌≡◌, refl, ◌≢◌, cond, List, ℕ, ◌≤◌, length, set, Float}
+use Rattle.std.specs.Prelude.{◌≡◌, refl, ◌≢◌, cond, List, ℕ, ◌≤◌, length, set, Float, Result, Ok, Err}
 use Rattle.std.proofs.Common.{sym, ◌∙◌, arith}
 use Rattle.std.proofs.Math.Path.{ap}
 use Rattle.std.proofs.Math.Bool.{true}
@@ -8,22 +8,16 @@ use Rattle.std.specs.Float.{binary64}
 use Rattle.std.specs.Float.Ieee.{of_bits, to_bits}
 use Rattle.answer.specs.Answers.{draws_of}
 use Rattle.random.specs.declared.Random.{Random}
-use Rattle.random.specs.declared.Below.{Below}
-use Rattle.random.specs.declared.Below.TheVariants as Belows
 use Rattle.random.proofs.DrawLaws.{after-four}
 use Rattle.random.specs.BelowCall.{below_call}
 use Rattle.random.proofs.BelowCallLaws.{below-drawn}
-use Rattle.lent.specs.Lent.{lent_below}
 use Rattle.lent.specs.LentLaws.{below-as-lent}
-use Rattle.tree.specs.declared.Verdict.{Verdict}
 use Rattle.tree.specs.Tree.{Tree}
 use Rattle.calls.specs.Call.{Called, Ending, refused, given, limited, checked, run_call, call_of}
 use Rattle.calls.proofs.RunLaws.{run-steps}
 use Rattle.moves.specs.Programs.{Start, slide_start}
 use Rattle.moves.specs.Moves.{Move, subtree_slide, move_call, start_call, unvalidated_start}
 use Rattle.moves.proofs.Demands.{steps}
-use Rattle.slide.specs.declared.Begun.{Begun}
-use Rattle.slide.specs.declared.Begun.TheVariants as Begins
 use Rattle.slide.specs.declared.Started.{Started}
 use Rattle.slide.specs.Started.{started_of}
 use Rattle.record.specs.Record.{is_record, no_record, word_in, generator_in, node_in, tuning_in, allowance_in, with_generator, with_node, Written, written, on_record, replied, given_reply, refused_reply}
@@ -36,48 +30,50 @@ use Rattle.allowances.specs.CallLaws.{lasting-calls}
 use Rattle.allowances.specs.WordLaws.{elsewhere, record_same, root-same, generator-same, put-read, generator-beside, replied-beside, answered-beside, refusal-tells, answered-tells}
 use Rattle.allowances.specs.Exports.{left_with, LastingWords, LastingLeft, LastingMove, LastingUnvalidated}
 use Rattle.allowances.specs.KeptLaws.{Four, kept}
+use Rattle.answer.specs.declared.Refusal.{Refusal}
+use Rattle.slide.specs.declared.SlideNode.{SlideNode}
 
 -- ---- a generator that was stepped from a record's
 
 -- a first call's, however it ended
-start-four : (t : Tree) (words : List ℕ) (v : Verdict) (a : ℕ) → Four (started_of (generator_in words) (run_call v (slide_start t) (generator_in words) a)).random
+start-four : (t : Tree) (words : List ℕ) (v : Result (Unit {0}) Refusal) (a : ℕ) → Four (started_of (generator_in words) (run_call v (slide_start t) (generator_in words) a)).random
 start-four t words v a = go (run_call v (slide_start t) (generator_in words) a) refl
   where
     go : (e : Ending Start) → run_call v (slide_start t) (generator_in words) a ≡ e → Four (started_of (generator_in words) e).random
     go (refused why) q = refl
     go (given s draws h) q = rw (run-steps (slide_start t) (generator_in words) v a s draws h q) (after-four draws (generator_in words) refl)
 
-below-four : (words : List ℕ) (n a : ℕ) → Four (below_call (generator_in words) n a).random
-below-four words n a = go (below_call (generator_in words) n a).answer (λ i. below_call (generator_in words) n a)
+below-four : (words : List ℕ) (n a : ℕ) → Four (below_call (generator_in words) n a).1
+below-four words n a = go (below_call (generator_in words) n a).0 (λ i. below_call (generator_in words) n a)
   where
     found : Random
-    found = (below_call (generator_in words) n a).random
+    found = (below_call (generator_in words) n a).1
 
-    go : (x : Below) → below_call (generator_in words) n a ≡ lent_below x found → Four found
-    go (Belows.Drawn k draws) e = rw (below-drawn (generator_in words) n a k draws found e).moved (after-four draws (generator_in words) refl)
-    go (Belows.Refused why) e = rw (below-as-lent (generator_in words) n a found why (sym e))
+    go : (x : Result (ℕ × ℕ) Refusal) → below_call (generator_in words) n a ≡ (x, found) → Four found
+    go (Ok (k, draws)) e = rw (below-drawn (generator_in words) n a k draws found e).moved (after-four draws (generator_in words) refl)
+    go (Err why) e = rw (below-as-lent (generator_in words) n a found why (sym e))
 
 -- ---- the generator's calls and the moves
 
-below-left-beside : (x : Below) (g : Random) (words : List ℕ) (b : ℕ) → Four g → below_left x g (set words 5 b) ≡ written_with b (below_left x g words)
-below-left-beside (Belows.Drawn k draws) g words b four =
+below-left-beside : (x : Result (ℕ × ℕ) Refusal) (g : Random) (words : List ℕ) (b : ℕ) → Four g → below_left x g (set words 5 b) ≡ written_with b (below_left x g words)
+below-left-beside (Ok (k, draws)) g words b four =
     ap (replied (given_reply draws k 0)) (generator-beside b g words four) ∙ replied-beside b (given_reply draws k 0) (with_generator g words)
-below-left-beside (Belows.Refused why) g words b four = replied-beside b (refused_reply why) words
+below-left-beside (Err why) g words b four = replied-beside b (refused_reply why) words
 
-below-tells : (x : Below) (g : Random) (words : List ℕ) → 32 ≤ length words → below_number x ≡ 6 → written_number (below_left x g words) ≡ 6
-below-tells (Belows.Drawn k draws) g words long e = absurd (omega arith)
-below-tells (Belows.Refused why) g words long e = refusal-tells words long why ∙ e
+below-tells : (x : Result (ℕ × ℕ) Refusal) (g : Random) (words : List ℕ) → 32 ≤ length words → below_number x ≡ 6 → written_number (below_left x g words) ≡ 6
+below-tells (Ok (k, draws)) g words long e = absurd (omega arith)
+below-tells (Err why) g words long e = refusal-tells words long why ∙ e
 
 pub below-exported : LastingWords below_exported
 unfolding below_exported
 below-exported words b h o k n =
     rw (record_same words b, generator-same words b, elsewhere words b 6 tt, put-read words b h k)
-    (kept (λ d. below_number d.answer) (below_call (generator_in words) (node_in words)) (lasting-calls.below (generator_in words) (node_in words))
-    written_number written_with (λ d w. below_left d.answer d.random w) (written no_record) words b
+    (kept (λ d. below_number d.0) (below_call (generator_in words) (node_in words)) (lasting-calls.below (generator_in words) (node_in words))
+    written_number written_with (λ d w. below_left d.0 d.1 w) (written no_record) words b
     (let c = below_call (generator_in words) (node_in words) (allowance_in words) in record {
-      beside = below-left-beside c.answer c.random words b (below-four words (node_in words) (allowance_in words));
+      beside = below-left-beside c.0 c.1 words b (below-four words (node_in words) (allowance_in words));
       bare = refl;
-      tells = below-tells c.answer c.random words;
+      tells = below-tells c.0 c.1 words;
     })
     h o k n)
 
@@ -125,17 +121,17 @@ slide-same words b = rw (elsewhere words b 6 tt, elsewhere words b 7 tt)
 
 -- ---- a slide's first call
 
-begun-beside : (x : Begun) (g : Random) (words : List ℕ) (b : ℕ) → Four g → begun_left x g (set words 5 b) ≡ written_with b (begun_left x g words)
-begun-beside (Begins.Node s) g words b four =
+begun-beside : (x : Result SlideNode Refusal) (g : Random) (words : List ℕ) (b : ℕ) → Four g → begun_left x g (set words 5 b) ≡ written_with b (begun_left x g words)
+begun-beside (Ok s) g words b four =
     let r = given_reply s.draws (to_bits binary64 s.first) (to_bits binary64 s.second) in
     ap (λ (w : List ℕ). replied r (with_node s.node w)) (generator-beside b g words four)
     ∙ ap (replied r) (set_comm (with_generator g words) 5 6 b s.node (λ e. absurd (omega arith)))
     ∙ replied-beside b r (with_node s.node (with_generator g words))
-begun-beside (Begins.Refused why) g words b four = replied-beside b (refused_reply why) words
+begun-beside (Err why) g words b four = replied-beside b (refused_reply why) words
 
-begun-tells : (x : Begun) (g : Random) (words : List ℕ) → 32 ≤ length words → begun_number x ≡ 6 → written_number (begun_left x g words) ≡ 6
-begun-tells (Begins.Node s) g words long e = absurd (omega arith)
-begun-tells (Begins.Refused why) g words long e = refusal-tells words long why ∙ e
+begun-tells : (x : Result SlideNode Refusal) (g : Random) (words : List ℕ) → 32 ≤ length words → begun_number x ≡ 6 → written_number (begun_left x g words) ≡ 6
+begun-tells (Ok s) g words long e = absurd (omega arith)
+begun-tells (Err why) g words long e = refusal-tells words long why ∙ e
 
 module _ (call : ℕ → Started) (lasting : LastingStart call) (words : List ℕ) (four : Four (call (allowance_in words)).random) (b : ℕ) where
   start-kept : 1 ≤ word_in words 5 → word_in words 5 ≤ b → b ≤ 65535

@@ -1,5 +1,5 @@
 -- Request S-5 of the exported functions of parameters, which stand in words 13 to 31 of the record, and of TipAge. Assumes nothing.
-use Rattle.std.specs.Prelude.{◌≡◌, refl, ◌≢◌, Bool, true, false, cond, List, [], ◌∷◌, ℕ, ◌≤◌, length, set, Float}
+use Rattle.std.specs.Prelude.{◌≡◌, refl, ◌≢◌, Bool, true, false, cond, List, [], ◌∷◌, ℕ, ◌≤◌, length, set, Float, Option, Some, None}
 use Rattle.std.proofs.Math.Path.{ap}
 use Rattle.std.proofs.Common.{◌∙◌, arith}
 use Rattle.std.proofs.lemmas.List.{set_comm}
@@ -12,8 +12,6 @@ use Rattle.answer.specs.Answers.{draws_of, draws_in}
 use Rattle.random.specs.declared.Random.{Random}
 use Rattle.random.specs.Draw.{Draw}
 use Rattle.random.proofs.DrawLaws.{after-four}
-use Rattle.real.specs.declared.Optional.{Optional}
-use Rattle.real.specs.declared.Optional.TheVariants as Optionals
 use Rattle.real.specs.Real.{one}
 use Rattle.tree.specs.Tree.{Tree}
 use Rattle.calls.specs.Change.{Change, value_call}
@@ -27,8 +25,6 @@ use Rattle.fields.specs.Fields as Fields
 use Rattle.dating.specs.TipAge.{tip_age_call}
 use Rattle.dating.specs.AgeDemands.{age-steps}
 use Rattle.record.specs.Record.{is_record, no_record, word_in, real_in, generator_in, tuning_in, allowance_in, Written, written, on_record, replied, refused_reply, proposed}
-use Rattle.record_parameters.specs.declared.Choice.{Choice}
-use Rattle.record_parameters.specs.declared.Choice.TheVariants.{Of, Nothing}
 use Rattle.record_parameters.specs.Parameters.{optional_in, speciation_in, process_in, priors_in, with_real, with_optional, with_speciation, with_process, chosen_in, proposed_left}
 use Rattle.rove.specs.Exports.{tree_in}
 use Rattle.rove_parameters.specs.Exports.{lent, call_left, rates_left, chosen_left, aged_left, scale_exported, clock_rate_exported, birth_difference_exported, birth_rate_exported, relative_death_exported, clock_sigma_exported, branch_rate_scale_exported, fbd_exported, tip_age_exported}
@@ -37,15 +33,16 @@ use Rattle.allowances.specs.CallLaws.{lasting-calls, value-lasting}
 use Rattle.allowances.specs.WordLaws.{elsewhere, record_same, root-same, generator-same, put-read, stores-beside, replied-beside, proposed-beside, answered-beside, proposed-tells, answered-tells}
 use Rattle.allowances.specs.Exports.{lent_with, LastingWords, LastingLent}
 use Rattle.allowances.specs.KeptLaws.{Four, kept}
+use Rattle.fields.specs.declared.Field.{Field}
 
 -- ---- parameters are read and written beside the allowance
 
 real-beside : (k : ℕ) → 5 ≢ k → (x : Float) (words : List ℕ) (b : ℕ) → with_real k x (set words 5 b) ≡ set (with_real k x words) 5 b
 real-beside k n x words b = set_comm words 5 k b (to_bits binary64 x) n
 
-optional-beside : (v : Optional) (words : List ℕ) (b : ℕ) → with_optional v (set words 5 b) ≡ set (with_optional v words) 5 b
-optional-beside Optionals.Missing words b = refl
-optional-beside (Optionals.Given x) words b = real-beside 14 (λ e. absurd (omega arith)) x words b
+optional-beside : (v : Option Float) (words : List ℕ) (b : ℕ) → with_optional v (set words 5 b) ≡ set (with_optional v words) 5 b
+optional-beside None words b = refl
+optional-beside (Some x) words b = real-beside 14 (λ e. absurd (omega arith)) x words b
 
 speciation-beside : (v : Speciation) (words : List ℕ) (b : ℕ) → with_speciation v (set words 5 b) ≡ set (with_speciation v words) 5 b
 speciation-beside (Yule rate) words b = real-beside 14 (λ e. absurd (omega arith)) rate words b
@@ -192,15 +189,15 @@ pub fbd-exported : LastingWords fbd_exported
 unfolding chosen_left
 fbd-exported words b h o k n = rw (elsewhere words b 6 tt) (go (chosen_in words) n)
   where
-    go : (c : Choice) → written_number (on_record words (chosen_left c words)) ≢ 6 → on_record (set words 5 b) (chosen_left c (set words 5 b)) ≡ written_with b (on_record words (chosen_left c words))
-    go (Of field) n =
+    go : (c : Option Field) → written_number (on_record words (chosen_left c words)) ≢ 6 → on_record (set words 5 b) (chosen_left c (set words 5 b)) ≡ written_with b (on_record words (chosen_left c words))
+    go (Some field) n =
         let priors = priors_in words in
         let p = process_in words in
         let offset = real_in words 29 in
         let s = tuning_in words in
         rw (process-same words b, priors-same words b, elsewhere words b 29 tt, elsewhere words b 7 tt)
         (value-exported with_process process-beside (Fields.fbd_limits priors p offset s) (Fields.fbd field priors p offset s) p words b h o k n)
-    go Nothing n = rw (record_same words b) (none_left (is_record words))
+    go None n = rw (record_same words b) (none_left (is_record words))
       where
         none_left : (r : Bool) → cond r (replied (refused_reply (Parameter 0)) (set words 5 b)) (written no_record (set words 5 b))
             ≡ written_with b (cond r (replied (refused_reply (Parameter 0)) words) (written no_record words))

@@ -49,15 +49,15 @@ impl Refusal {
         ensures { result ≡ detail_of self }
     {
         match self {
-            Refusal::Size(count) => count,
-            Refusal::Shape(node) => node,
             Refusal::Disconnected => 0,
-            Refusal::Height(node) => node,
-            Refusal::Parameter(tip) => tip,
             Refusal::Allowance(allowance) => allowance as usize,
-            Refusal::NotFinite(node) => node,
-            Refusal::Outside(node) => node,
-            Refusal::Line(line) => line,
+            Refusal::Size(detail)
+            | Refusal::Shape(detail)
+            | Refusal::Height(detail)
+            | Refusal::Parameter(detail)
+            | Refusal::NotFinite(detail)
+            | Refusal::Outside(detail)
+            | Refusal::Line(detail) => detail,
         }
     }
 }

@@ -121,7 +121,7 @@ pub ruleset crossing_laws = (ready-meet, ready-first, ready-second, crossing-spe
 
 -- a walk sets out: the number is 65535 times 2^32, and n
 module _ (n : ℕ) (N : n ≤ 65535) where
-  sets-out : unpacked (281470681743360 + n) ≡ outset n
+  pub sets-out : unpacked (281470681743360 + n) ≡ outset n
   sets-out =
       let a : (281470681743360 + n) / 4294967296 ≡ 65535 = omega arith in
       let b : (281470681743360 + n) / 65536 % 65536 ≡ 0 = omega arith in
@@ -132,14 +132,21 @@ module _ (n : ℕ) (N : n ≤ 65535) where
   ready-outset k K = record { node = omega arith; small = record { found = omega arith; sum = omega arith } }
 
 module _ (pairs : List ℕ) (hs : List Float) (x : Float) (k w : ℕ) (N : nodes_of pairs ≤ 65535) where
-  pub count-is : Holds (walk (nodes_of pairs) (nodes_of pairs) (tree_of pairs [] hs 0) x 65535 k (unpacked (281470681743360 + nodes_of pairs))) w
+  pub walked-is : (index : ℕ) → Holds (walk (nodes_of pairs) (nodes_of pairs) (tree_of pairs [] hs 0) x index k (unpacked (281470681743360 + nodes_of pairs))) w
+      → Holds (walk (nodes_of pairs) (nodes_of pairs) (tree_of pairs [] hs 0) x index k (outset (nodes_of pairs))) w
+  walked-is index h = rw (← sets-out (nodes_of pairs) N) h
+
+pub ruleset walked_laws = (ready-outset, walked-is)
+
+module _ (pairs : List ℕ) (hs : List Float) (x : Float) (k w : ℕ) where
+  pub count-is : Holds (walk (nodes_of pairs) (nodes_of pairs) (tree_of pairs [] hs 0) x 65535 k (outset (nodes_of pairs))) w
       → w / 65536 % 65536 ≡ counted (tree_of pairs [] hs 0) x k
   unfolding counted
-  count-is h = ap (λ (u : Walk). u.met) h.same ∙ rw (sets-out (nodes_of pairs) N)
+  count-is h = ap (λ (u : Walk). u.met) h.same
 
-  pub branch-is : (index : ℕ) → Holds (walk (nodes_of pairs) (nodes_of pairs) (tree_of pairs [] hs 0) x index k (unpacked (281470681743360 + nodes_of pairs))) w
+  pub branch-is : (index : ℕ) → Holds (walk (nodes_of pairs) (nodes_of pairs) (tree_of pairs [] hs 0) x index k (outset (nodes_of pairs))) w
       → w / 4294967296 ≡ picked (tree_of pairs [] hs 0) x k index
   unfolding picked
-  branch-is index h = ap (λ (u : Walk). u.found) h.same ∙ rw (sets-out (nodes_of pairs) N)
+  branch-is index h = ap (λ (u : Walk). u.found) h.same
 
-pub ruleset count_laws = (ready-outset, count-is, branch-is)
+pub ruleset count_laws = (count-is, branch-is)

@@ -7,28 +7,31 @@ ghost use Rattle.std.specs.Prelude.{◌≡◌, ◌<◌, ◌≤◌};
 ghost use Rattle.tree.specs.Tree.{nodes_of};
 ghost use Rattle.tree.specs.Given.{kin_in, dates_in};
 ghost use Rattle.rules.specs.Rules.{climb};
-ghost use Rattle.branches.specs.Walk.{meet, walk, counted, picked, unpacked, Ready, Holds};
+ghost use Rattle.branches.specs.Walk.{outset, meet, walk, counted, picked, unpacked, Ready, Holds};
 
 // No node, and the number of no branch.
 const NONE: usize = 65535;
 
 // A walk that has found no branch, met none and may look at no node: NONE times 2^32. Walks are handed on in one number, which `unpacked` of
-// branches/Walk reads.
+// branches/Walk reads: that is faster than a struct of the three.
 const OUTSET: usize = 281470681743360;
 
 // The branch over k is met.
+#[tactic(auto, using(crate::proofs::CrossingLaws::meet_laws))]
 fn meet(index: usize, k: usize, w: usize) -> usize
     requires { Ready 65534 k w }
     ensures { Holds (meet index k (unpacked w)) result }
 {
     if w / 65536 % 65536 == index {
-        return k * 4294967296;
+        k * 4294967296
+    } else {
+        w + 65536
     }
-    w + 65536
 }
 
 // The branch over k, or those under it, that span the height x, the first child's before the second's: looks for the one numbered index, the depth
 // falling at each call.
+#[tactic(auto, using(crate::proofs::CrossingLaws::crossing_laws))]
 fn crossing(
     pairs: &[u16],
     heights: &[f64],
@@ -41,10 +44,7 @@ fn crossing(
     requires { Ready 65535 k w }
     ensures { Holds (walk depth (nodes_of pairs.now) (kin_in pairs.now heights.now) x index k (unpacked w)) result }
 {
-    if w % 65536 == 0 {
-        return w;
-    }
-    if depth == 0 {
+    if w % 65536 == 0 || depth == 0 {
         return w;
     }
     if reads::height(heights, k) < x {
@@ -59,50 +59,48 @@ fn crossing(
     w - 1
 }
 
+// The whole walk under k, which is a node of 16 bits; from any other the walk does not set out.
+#[tactic(auto, using(crate::proofs::CrossingLaws::walked_laws))]
+fn walked(pairs: &[u16], heights: &[f64], x: f64, k: usize, index: usize) -> usize
+    ensures { nodes_of pairs.now ≤ 65535 → k < nodes_of pairs.now → Holds (walk (nodes_of pairs.now) (nodes_of pairs.now) (kin_in pairs.now heights.now) x index k (outset (nodes_of pairs.now))) result }
+{
+    let n = pairs.len() / 2;
+    if k < n && n <= NONE {
+        crossing(pairs, heights, x, index, k, OUTSET + n, n)
+    } else {
+        OUTSET
+    }
+}
+
 // How many branches under k, or k's own, span the height x.
+#[tactic(auto, using(crate::proofs::CrossingLaws::count_laws))]
 pub fn count(pairs: &[u16], heights: &[f64], x: f64, k: usize) -> usize
     ensures { nodes_of pairs.now ≤ 65535 → k < nodes_of pairs.now → result ≡ counted (kin_in pairs.now heights.now) x k }
 {
-    let n = pairs.len() / 2;
-    if NONE < n {
-        return 0;
-    }
-    if k < n {
-        let w = crossing(pairs, heights, x, NONE, k, OUTSET + n, n);
-        return w / 65536 % 65536;
-    }
-    0
+    walked(pairs, heights, x, k, NONE) / 65536 % 65536
 }
 
 // The one of them that is numbered index, left first.
+#[tactic(auto, using(crate::proofs::CrossingLaws::count_laws))]
 pub fn branch(pairs: &[u16], heights: &[f64], x: f64, k: usize, index: usize) -> usize
     ensures { nodes_of pairs.now ≤ 65535 → k < nodes_of pairs.now → result ≡ picked (kin_in pairs.now heights.now) x k index }
 {
-    let n = pairs.len() / 2;
-    if NONE < n {
-        return NONE;
-    }
-    if k < n {
-        let w = crossing(pairs, heights, x, index, k, OUTSET + n, n);
-        return w / 4294967296;
-    }
-    NONE
+    walked(pairs, heights, x, k, index) / 4294967296
 }
 
 // Up from k while the next node is below the height x, at most n times.
+#[tactic(auto, using(crate::proofs::ClimbLaws::climb_laws))]
 pub fn climb(parents: &[u16], heights: &[f64], root: usize, x: f64, k: usize, n: usize) -> usize
     ensures { result ≡ climb n (dates_in parents.now heights.now root) x k }
 {
     let mut at = k;
-    let mut left = n;
-    while 0 < left {
+    for _ in 0..n {
         if at == root {
             return at;
         }
         let p = reads::parent(parents, at);
         if reads::height(heights, p) < x {
             at = p;
-            left -= 1;
         } else {
             return at;
         }

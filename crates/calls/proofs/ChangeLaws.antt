@@ -3,7 +3,7 @@
 -- `value-within`, `value-draws`); what is not changed (`value-refused`, `value-kept`); how the program's run ended
 -- (`value_made`, `value-unmade`); other allowances (`value-larger`, `value-enough`); and that nothing but 5
 -- and 6 turns it back (`value-ends`, `value-refusals`). Assumes nothing.
-use Rattle.std.specs.Prelude.{◌≡◌, ◌⊎◌, Bool, ◌&&◌, cond, ℕ, ◌-◌, ◌≤◌}
+use Rattle.std.specs.Prelude.{◌≡◌, ◌⊎◌, Bool, ◌&&◌, cond, ℕ, ◌-◌, ◌≤◌, Ok, Err}
 use Rattle.std.proofs.Math.Path.{refl, ap}
 use Rattle.std.proofs.Common.{◌∙◌, inl, inr}
 use Rattle.std.proofs.Math.Bool.{true, false}
@@ -19,7 +19,6 @@ use Rattle.random.specs.declared.Supply.{Supply}
 use Rattle.random.specs.Generator.{after}
 use Rattle.random.specs.Draw.{Draw, return, Drawn, spent, got, onward, run, supply_of, allowed}
 use Rattle.random.proofs.DrawLaws.{run_bind}
-use Rattle.tree.specs.declared.Verdict.TheVariants as Verdicts
 use Rattle.calls.specs.Call.{Reply, makes, Ending, refused, given, ended, left_of, draws_made, limited, past, run_call}
 use Rattle.calls.specs.Change.{Change, declined, scaled, in_place, on_part, Proposed, proposed, keeps, replying, value_call}
 use Rattle.calls.proofs.RunLaws.{clash, run-steps, run-within, run-draws, run-larger, run-enough}
@@ -96,8 +95,8 @@ module _ {P Q : Type 0} (put : P → Q) (limits : Bool) (program : Draw (Change 
       s = supply_of g allowance
 
       go : (b : Bool)
-          → keeps (put v) g (past (cond b Verdicts.Fine (Verdicts.Refused (Parameter 0))) (ended allowance (run (replying (on_part put program)) s)))
-          ≡ put_in put (keeps v g (past (cond b Verdicts.Fine (Verdicts.Refused (Parameter 0))) (ended allowance (run (replying program) s))))
+          → keeps (put v) g (past (cond b (Ok tt) (Err (Parameter 0))) (ended allowance (run (replying (on_part put program)) s)))
+          ≡ put_in put (keeps v g (past (cond b (Ok tt) (Err (Parameter 0))) (ended allowance (run (replying program) s))))
       go true = rw (replying-run (on_part put program) s, part-run s, replying-run program s) (placed (run program s))
       go false = unfold keeps in refl
 
@@ -181,7 +180,7 @@ module _ {P : Type 0} (limits : Bool) (program : Draw (Change P)) (v : P) (g : R
       drawn f spent e q = clash cc
       drawn f (got b u) e q = let z : b ≡ c = cc in record { fine = f; supply = u; ran = e ∙ ap (λ (y : Change P). got y u) z }
 
-      go : (b : Bool) → limits && allowed a ≡ b → past (cond b Verdicts.Fine (Verdicts.Refused (Parameter 0))) (ended a (run (replying program) (supply_of g a))) ≡ given c d h → Changed a c
+      go : (b : Bool) → limits && allowed a ≡ b → past (cond b (Ok tt) (Err (Parameter 0))) (ended a (run (replying program) (supply_of g a))) ≡ given c d h → Changed a c
       go true f e = drawn f (run program (supply_of g a)) refl (rw (replying-run program (supply_of g a)) at e)
       go false f e = clash cc
 

@@ -1,7 +1,7 @@
--- For the code of unvalidated calls on any slices. In order: drawing steps a supply (`number-stepped` and its like); the ways in which a turn ends
+-- For the code of unvalidated calls on any slices. In order: drawing steps a supply (`number-stepped`, `program-stepped`); the ways in which a turn ends
 -- (`mild_laws`), and a turn from a later supply (`mild-later`); and a call from its turn (`refused-harmless`, `turn-harmless`). Assumes nothing.
-use Rattle.std.specs.Prelude.{◌≡◌, refl, Bool, true, false, ◌&&◌, cond, List, ℕ, ◌-◌, length, Float}
-use Rattle.std.proofs.Common.{sym, ◌∙◌, subst, true≢false, arith}
+use Rattle.std.specs.Prelude.{◌≡◌, refl, Bool, true, false, ◌&&◌, cond, List, ℕ, ◌-◌, length, Float, Result, Ok, Err, Some}
+use Rattle.std.proofs.Common.{sym, ◌∙◌, true≢false, arith}
 use Rattle.std.proofs.Math.Path.{ap}
 use Rattle.answer.specs.declared.Refusal.{Refusal}
 use Rattle.answer.specs.declared.Refusal.TheVariants.{Parameter}
@@ -9,15 +9,11 @@ use Rattle.answer.specs.declared.Ratio.{Ratio}
 use Rattle.answer.specs.declared.Answer.TheVariants as Answers
 use Rattle.random.specs.declared.Random.{Random}
 use Rattle.random.specs.declared.Supply.{Supply}
-use Rattle.random.specs.declared.DrawnNumber.{DrawnNumber}
-use Rattle.random.specs.declared.DrawnReal.{DrawnReal}
-use Rattle.random.specs.declared.DrawnSide.{DrawnSide}
 use Rattle.random.specs.Generator.{after}
-use Rattle.random.specs.Draw.{Number, Draw, Drawn, spent, got, pick, run, supply_of, allowed, drawn_number, drawn_real, drawn_side}
+use Rattle.random.specs.Draw.{Number, Draw, Drawn, spent, got, pick, run, supply_of, allowed, drawn}
+use Rattle.random.specs.SupplyLaws.{drawn-got}
 use Rattle.random.specs.Lawful.{Stepped}
 use Rattle.random.proofs.DrawLaws.{stepped-refl, stepped-trans, pick-lawful, run-lawful}
-use Rattle.tree.specs.declared.Verdict.{Verdict}
-use Rattle.tree.specs.declared.Verdict.TheVariants as Verdicts
 use Rattle.tree.specs.Tree.{Tree}
 use Rattle.tree.specs.Given.{tree_of}
 use Rattle.calls.specs.declared.Turned.TheVariants as Turns
@@ -28,28 +24,13 @@ use Rattle.calls.specs.Harmless.{SameLengths, Harmless, Mild, moves, declines, s
 
 -- ---- drawing steps a supply
 
--- s is the turn's supply, and u the one from which is drawn
+-- s is the turn's supply, u the one from which is drawn, and w the one after the draw
 module _ (s u : Supply) (h : Stepped s u) where
-  pub number-stepped : (n : Number) (d : DrawnNumber) → d ≡ drawn_number u (pick n u) → Stepped s d.supply
-  number-stepped n d e = subst (λ (x : DrawnNumber). Stepped s x.supply) (sym e) (go (pick n u) refl)
-    where
-      go : (x : Drawn ℕ) → pick n u ≡ x → Stepped s (drawn_number u x).supply
-      go spent f = h
-      go (got k w) f = stepped-trans h ((pick-lawful n).steps u k w f)
+  pub number-stepped : (n : Number) (k : ℕ) (w : Supply) → Some (k, w) ≡ drawn (pick n u) → Stepped s w
+  number-stepped n k w e = stepped-trans h ((pick-lawful n).steps u k w (drawn-got (pick n u) k w e))
 
-  pub real-stepped : (p : Draw Float) (d : DrawnReal) → d ≡ drawn_real u (run p u) → Stepped s d.supply
-  real-stepped p d e = subst (λ (x : DrawnReal). Stepped s x.supply) (sym e) (go (run p u) refl)
-    where
-      go : (x : Drawn Float) → run p u ≡ x → Stepped s (drawn_real u x).supply
-      go spent f = h
-      go (got k w) f = stepped-trans h ((run-lawful p).steps u k w f)
-
-  pub side-stepped : (p : Draw Bool) (d : DrawnSide) → d ≡ drawn_side u (run p u) → Stepped s d.supply
-  side-stepped p d e = subst (λ (x : DrawnSide). Stepped s x.supply) (sym e) (go (run p u) refl)
-    where
-      go : (x : Drawn Bool) → run p u ≡ x → Stepped s (drawn_side u x).supply
-      go spent f = h
-      go (got k w) f = stepped-trans h ((run-lawful p).steps u k w f)
+  pub program-stepped : {A : Type 0} (p : Draw A) (a : A) (w : Supply) → Some (a, w) ≡ drawn (run p u) → Stepped s w
+  program-stepped p a w e = stepped-trans h ((run-lawful p).steps u a w (drawn-got (run p u) a w e))
 
 -- ---- how a turn ends
 
@@ -93,7 +74,7 @@ module _ (t : Tree) (s u : Supply) (program : Draw (Reply Outcome)) where
       → length a.heights ≡ length t.heights → Mild t u a
   run-mild a e p q h = rw e (ran-mild (run program u) refl (record { pairs = rw e at p; parents = rw e at q; heights = rw e at h }))
 
-pub ruleset mild_laws = (stepped-refl, number-stepped, real-stepped, side-stepped, mild-moved, mild-declined, mild-spent, mild-not-finite, mild-outside, mild-later)
+pub ruleset mild_laws = (stepped-refl, number-stepped, program-stepped, mild-moved, mild-declined, mild-spent, mild-not-finite, mild-outside, mild-later)
 
 -- ---- a call from its turn
 
@@ -118,19 +99,19 @@ module _ (limits : Bool) (t : Tree) (g : Random) (allowance : ℕ) where
       }
 
   -- v is what was said of the limits
-  module _ (v : Verdict) (e : v ≡ limited limits allowance) where
-    pub refused-harmless : (why : Refusal) → v ≡ Verdicts.Refused why → Harmless limits t g allowance (called_on (Answers.Refused why) g t)
-    refused-harmless why y = back-harmless why (λ f. let z : Verdicts.Refused why ≡ Verdicts.Refused (Parameter 0) = sym y ∙ e ∙ rw f in cc)
+  module _ (v : Result (Unit {0}) Refusal) (e : v ≡ limited limits allowance) where
+    pub refused-harmless : (why : Refusal) → v ≡ Err why → Harmless limits t g allowance (called_on (Answers.Refused why) g t)
+    refused-harmless why y = back-harmless why (λ f. let z : Err why ≡ Err (Parameter 0) = sym y ∙ e ∙ rw f in cc)
 
     -- past them nothing is refused for its parameters
-    passed-limits : v ≡ Verdicts.Fine → limits && allowed allowance ≡ true
+    passed-limits : v ≡ (Ok tt) → limits && allowed allowance ≡ true
     passed-limits y = go (limits && allowed allowance) (sym e ∙ y)
       where
-        go : (b : Bool) → cond b Verdicts.Fine (Verdicts.Refused (Parameter 0)) ≡ Verdicts.Fine → b ≡ true
+        go : (b : Bool) → ◌≡◌ {A = Result (Unit {0}) Refusal} (cond b (Ok tt) (Err (Parameter 0))) (Ok tt) → b ≡ true
         go true f = refl
         go false f = clash cc
 
-    module _ (y : v ≡ Verdicts.Fine) where
+    module _ (y : v ≡ (Ok tt)) where
       not-limited : {X : Type 0} → limits && allowed allowance ≡ false → X
       not-limited f = absurd (true≢false (sym (passed-limits y) ∙ f))
 

@@ -1,7 +1,7 @@
 -- What every call on a tree leaves, whatever its checks and its program: RunLaws on the answer, the generator and the slices. In order: what is not
 -- changed (`leaves-refused`, `leaves_kept`); draws (`leaves-steps`, `leaves-within`, `leaves-draws`); other allowances (`leaves-larger`, `leaves-enough`); and how the
 -- program's run ended, by the answer (`leaves-moved`, `leaves-declined`, `leaves-infinite`, `leaves-outside`). Assumes nothing.
-use Rattle.std.specs.Prelude.{◌≡◌, ℕ, ◌≤◌}
+use Rattle.std.specs.Prelude.{◌≡◌, ℕ, ◌≤◌, Result, Ok, Err}
 use Rattle.std.proofs.Math.Path.{refl, ap}
 use Rattle.std.proofs.Common.{◌∙◌}
 use native.Mathlib.Omega.{arith}
@@ -15,8 +15,6 @@ use Rattle.random.specs.declared.Random.{Random}
 use Rattle.random.specs.declared.Supply.{Supply}
 use Rattle.random.specs.Generator.{after}
 use Rattle.random.specs.Draw.{Draw, Drawn, spent, got, run, supply_of}
-use Rattle.tree.specs.declared.Verdict.{Verdict}
-use Rattle.tree.specs.declared.Verdict.TheVariants as Verdicts
 use Rattle.tree.specs.Tree.{Tree}
 use Rattle.tree.specs.Given.{tree_of}
 use Rattle.accepted.specs.RefusalLaws.{AtMost}
@@ -24,13 +22,13 @@ use Rattle.calls.specs.Call.{Reply, makes, not_finite, outside, Ending, refused,
 use Rattle.calls.proofs.RunLaws.{clash, run-given, run-steps, run-within, run-draws, run-larger, run-enough}
 
 -- the call passed its checks, and its program's run ended in a reply
-pub record Replied (program : Draw (Reply Outcome)) (g : Random) (v : Verdict) (a : ℕ) (r : Reply Outcome) : Type 0 where
-  pub fine : v ≡ Verdicts.Fine
+pub record Replied (program : Draw (Reply Outcome)) (g : Random) (v : Result (Unit {0}) Refusal) (a : ℕ) (r : Reply Outcome) : Type 0 where
+  pub fine : v ≡ (Ok tt)
   pub supply : Supply
   pub ran : run program (supply_of g a) ≡ got r supply
 
 module _ (t : Tree) (program : Draw (Reply Outcome)) (g : Random) where
-  module _ (v : Verdict) (a : ℕ) where
+  module _ (v : Result (Unit {0}) Refusal) (a : ℕ) where
     abbrev ending : Ending Outcome
     ending = run_call v program g a
 
@@ -97,7 +95,7 @@ module _ (t : Tree) (program : Draw (Reply Outcome)) (g : Random) where
   -- ---- other allowances
 
   -- the checks say v of the allowance a, and w of b
-  module _ (v w : Verdict) (a b : ℕ) where
+  module _ (v w : Result (Unit {0}) Refusal) (a b : ℕ) where
     -- what was answered with an allowance is answered with a larger one of which the checks say the same, unless it was a 6
     pub leaves-larger : w ≡ v → a ≤ b → ((leaves t g (run_call v program g a)).answer ≡ Answers.Refused (Allowance a) → ⊥)
         → leaves t g (run_call w program g b) ≡ leaves t g (run_call v program g a)
@@ -110,7 +108,7 @@ module _ (t : Tree) (program : Draw (Reply Outcome)) (g : Random) where
 
   -- ---- how the program's run ended
 
-  module _ (v : Verdict) (a : ℕ) where
+  module _ (v : Result (Unit {0}) Refusal) (a : ℕ) where
     given_so : (o : Outcome) (d : ℕ) (h : Random) → run_call v program g a ≡ given o d h → Replied program g v a (makes o)
     given_so o d h e = let c = run-given program g v a o d h e in record { fine = c.fine; supply = supply_of h c.left; ran = c.ran }
 
@@ -141,12 +139,12 @@ module _ (t : Tree) (program : Draw (Reply Outcome)) (g : Random) where
         go (given (moved u r) d h) e q = clash cc
 
     -- where the checks refuse with 5 at most, a call that is refused with 6 or more passed them
-    late : (w : Verdict) → AtMost 5 w → (why : Refusal) → 6 ≤ number_of why → (leaves t g (run_call w program g a)).answer ≡ Answers.Refused why → w ≡ Verdicts.Fine
+    late : (w : Result (Unit {0}) Refusal) → AtMost 5 w → (why : Refusal) → 6 ≤ number_of why → (leaves t g (run_call w program g a)).answer ≡ Answers.Refused why → w ≡ (Ok tt)
     unfolding leaves
-    late Verdicts.Fine few why h e = refl
-    late (Verdicts.Refused z) few why h e = let same : z ≡ why = cc in let k : number_of why ≤ 5 = rw same at few in absurd (omega arith)
+    late (Ok tt) few why h e = refl
+    late (Err z) few why h e = let same : z ≡ why = cc in let k : number_of why ≤ 5 = rw same at few in absurd (omega arith)
 
-    module _ (y : v ≡ Verdicts.Fine) where
+    module _ (y : v ≡ (Ok tt)) where
       turned : (why : Refusal) → (leaves t g (run_call v program g a)).answer ≡ Answers.Refused why → ended a (run program (supply_of g a)) ≡ refused why
       unfolding leaves
       turned why q = go (ended a (run program (supply_of g a))) (rw y at q)
@@ -161,7 +159,7 @@ module _ (t : Tree) (program : Draw (Reply Outcome)) (g : Random) where
     unfolding ended
     leaves-infinite few k q = let y = late v few (NotFinite k) (omega arith) q in go y (run program (supply_of g a)) refl (turned y (NotFinite k) q)
       where
-        go : v ≡ Verdicts.Fine → (d : Drawn (Reply Outcome)) → run program (supply_of g a) ≡ d → ended a d ≡ refused (NotFinite k) → Replied program g v a (not_finite k)
+        go : v ≡ (Ok tt) → (d : Drawn (Reply Outcome)) → run program (supply_of g a) ≡ d → ended a d ≡ refused (NotFinite k) → Replied program g v a (not_finite k)
         go y spent e q = clash cc
         go y (got (not_finite j) s) e q = let z : j ≡ k = cc in record { fine = y; supply = s; ran = e ∙ ap (λ (i : ℕ). got (not_finite i) s) z }
         go y (got (outside j) s) e q = clash cc
@@ -172,7 +170,7 @@ module _ (t : Tree) (program : Draw (Reply Outcome)) (g : Random) where
     unfolding ended
     leaves-outside few k q = let y = late v few (Outside k) (omega arith) q in go y (run program (supply_of g a)) refl (turned y (Outside k) q)
       where
-        go : v ≡ Verdicts.Fine → (d : Drawn (Reply Outcome)) → run program (supply_of g a) ≡ d → ended a d ≡ refused (Outside k) → Replied program g v a (outside k)
+        go : v ≡ (Ok tt) → (d : Drawn (Reply Outcome)) → run program (supply_of g a) ≡ d → ended a d ≡ refused (Outside k) → Replied program g v a (outside k)
         go y spent e q = clash cc
         go y (got (not_finite j) s) e q = clash cc
         go y (got (outside j) s) e q = let z : j ≡ k = cc in record { fine = y; supply = s; ran = e ∙ ap (λ (i : ℕ). got (outside i) s) z }

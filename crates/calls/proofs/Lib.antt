@@ -1,5 +1,4 @@
 -- The laws that the proofs of calls share: one for each way through a function.
-mod CallLaws
 mod DrawnLaws
 pub mod RunLaws
 pub mod TreeCallLaws

@@ -2,7 +2,7 @@
 -- (`run-given`); steps: the generator after it is the one before, stepped as often as the call says that it drew (`run-steps`), and that is within
 -- the allowance (`run-within`) and as many as its program makes (`run-draws`); a larger allowance changes nothing but a 6 (`run-larger`), and one that is
 -- just enough for the program is enough, whatever it ends in (`run-enough`); past the checks only 6, 7 and 8 turn a call back (`run-refused`). Assumes nothing.
-use Rattle.std.specs.Prelude.{◌≡◌, ◌⊎◌, ℕ, ◌+◌, ◌-◌, ◌≤◌}
+use Rattle.std.specs.Prelude.{◌≡◌, ◌⊎◌, ℕ, ◌+◌, ◌-◌, ◌≤◌, Result, Ok, Err}
 use Rattle.std.proofs.Math.Path.{refl, sym}
 use Rattle.std.proofs.Common.{ap, ◌∙◌, subst, arith}
 use Rattle.std.proofs.Math.Logic.{inl, inr}
@@ -14,8 +14,6 @@ use Rattle.random.specs.Generator.{after}
 use Rattle.random.specs.Draw.{Draw, Drawn, spent, got, run, supply_of}
 use Rattle.random.specs.Lawful.{more}
 use Rattle.random.proofs.DrawLaws.{run-lawful}
-use Rattle.tree.specs.declared.Verdict.{Verdict}
-use Rattle.tree.specs.declared.Verdict.TheVariants as Verdicts
 use Rattle.calls.specs.Call.{Reply, makes, not_finite, outside, refused, given, ended, left_of, draws_made, run_call}
 
 -- for cases that cannot be: where two different constructors would be equal, `cc` makes this of them
@@ -26,19 +24,19 @@ module _ {A : Type 0} (program : Draw (Reply A)) (g : Random) where
   -- ---- a value
 
   -- the call passed its checks, and its program drew the value
-  pub record Ran (verdict : Verdict) (allowance : ℕ) (a : A) (draws : ℕ) (h : Random) : Type 0 where
-    pub fine : verdict ≡ Verdicts.Fine
+  pub record Ran (verdict : Result (Unit {0}) Refusal) (allowance : ℕ) (a : A) (draws : ℕ) (h : Random) : Type 0 where
+    pub fine : verdict ≡ (Ok tt)
     pub left : ℕ
     pub ran : run program (supply_of g allowance) ≡ got (makes a) (supply_of h left)
     pub made : draws ≡ allowance - left
 
   -- a call that gave a value passed its checks, and its program drew the value
-  pub run-given : (v : Verdict) (allowance : ℕ) (a : A) (draws : ℕ) (h : Random) → run_call v program g allowance ≡ given a draws h → Ran v allowance a draws h
+  pub run-given : (v : Result (Unit {0}) Refusal) (allowance : ℕ) (a : A) (draws : ℕ) (h : Random) → run_call v program g allowance ≡ given a draws h → Ran v allowance a draws h
   unfolding ended
-  run-given (Verdicts.Refused why) allowance a draws h e = clash cc
-  run-given Verdicts.Fine allowance a draws h e = drawn (run program (supply_of g allowance)) refl e
+  run-given (Err why) allowance a draws h e = clash cc
+  run-given (Ok tt) allowance a draws h e = drawn (run program (supply_of g allowance)) refl e
     where
-      drawn : (d : Drawn (Reply A)) → run program (supply_of g allowance) ≡ d → ended allowance d ≡ given a draws h → Ran Verdicts.Fine allowance a draws h
+      drawn : (d : Drawn (Reply A)) → run program (supply_of g allowance) ≡ d → ended allowance d ≡ given a draws h → Ran (Ok tt) allowance a draws h
       drawn spent e q = clash cc
       drawn (got (not_finite k) s) e q = clash cc
       drawn (got (outside k) s) e q = clash cc
@@ -48,7 +46,7 @@ module _ {A : Type 0} (program : Draw (Reply A)) (g : Random) where
           let ed : allowance - s.left ≡ draws = cc in
           record { fine = refl; left = s.left; ran = e ∙ (λ i. got (makes (ea i)) (supply_of (eh i) s.left)); made = sym ed }
 
-  module _ (v : Verdict) (allowance : ℕ) (a : A) (draws : ℕ) (h : Random) (e : run_call v program g allowance ≡ given a draws h) where
+  module _ (v : Result (Unit {0}) Refusal) (allowance : ℕ) (a : A) (draws : ℕ) (h : Random) (e : run_call v program g allowance ≡ given a draws h) where
     -- the generator is stepped as often as the call says that it drew
     pub run-steps : h ≡ after draws g
     run-steps =
@@ -83,18 +81,18 @@ module _ {A : Type 0} (program : Draw (Reply A)) (g : Random) where
   alike a b o (makes x) s e = rw (grown a b o (makes x) s e) (ap (λ (m : ℕ). given x m s.random) (as_many a b o (makes x) s e))
 
   -- what the call answered with an allowance it answers with a larger one, unless it was a 6
-  pub run-larger : (v : Verdict) (a b : ℕ) → a ≤ b → (run_call v program g a ≡ refused (Allowance a) → ⊥) → run_call v program g b ≡ run_call v program g a
-  run-larger (Verdicts.Refused why) a b o n = refl
-  run-larger Verdicts.Fine a b o n = drawn (run program (supply_of g a)) refl n
+  pub run-larger : (v : Result (Unit {0}) Refusal) (a b : ℕ) → a ≤ b → (run_call v program g a ≡ refused (Allowance a) → ⊥) → run_call v program g b ≡ run_call v program g a
+  run-larger (Err why) a b o n = refl
+  run-larger (Ok tt) a b o n = drawn (run program (supply_of g a)) refl n
     where
       drawn : (d : Drawn (Reply A)) → run program (supply_of g a) ≡ d → (ended a d ≡ refused (Allowance a) → ⊥) → ended b (run program (supply_of g b)) ≡ ended a d
       drawn spent e n = absurd (n (unfold ended in refl))
       drawn (got r s) e n = alike a b o r s e
 
   -- an allowance of as many draws as the program makes is enough, whatever it ends in: a 6 is given only where more draws would be made
-  pub run-enough : (v : Verdict) (a b : ℕ) → a ≤ b → draws_made program g b ≤ a → run_call v program g a ≡ run_call v program g b
-  run-enough (Verdicts.Refused why) a b o m = refl
-  run-enough Verdicts.Fine a b o m = drawn (run program (supply_of g b)) refl m
+  pub run-enough : (v : Result (Unit {0}) Refusal) (a b : ℕ) → a ≤ b → draws_made program g b ≤ a → run_call v program g a ≡ run_call v program g b
+  run-enough (Err why) a b o m = refl
+  run-enough (Ok tt) a b o m = drawn (run program (supply_of g b)) refl m
     where
       drawn : (d : Drawn (Reply A)) → run program (supply_of g b) ≡ d → b - left_of d ≤ a → ended a (run program (supply_of g a)) ≡ ended b (run program (supply_of g b))
       drawn spent e m = let same : a ≡ b = omega arith in rw same
@@ -109,7 +107,7 @@ module _ {A : Type 0} (program : Draw (Reply A)) (g : Random) where
   -- ---- what turns a call back
 
   -- past the checks, more draws needed than allowed, a height that is not finite, or one outside its interval
-  pub run-refused : (v : Verdict) → v ≡ Verdicts.Fine → (allowance : ℕ) (why : Refusal) → run_call v program g allowance ≡ refused why
+  pub run-refused : (v : Result (Unit {0}) Refusal) → v ≡ (Ok tt) → (allowance : ℕ) (why : Refusal) → run_call v program g allowance ≡ refused why
       → (why ≡ Allowance allowance) ⊎ ((k : ℕ) × ((why ≡ NotFinite k) ⊎ (why ≡ Outside k)))
   unfolding ended
   run-refused v y allowance why = rw y (drawn (run program (supply_of g allowance)))

@@ -1,15 +1,13 @@
 -- What holds of every call on a tree, whatever its program: RunLaws with the checks of the tree and the limits. In order: what a call that was not
 -- turned back has passed and drawn (`call-given`); draws (`call-steps`, `call-within`, `call-draws`); other allowances (`call-larger`, `call-enough`); and what
 -- turns a call back past its checks (`call-refused`) and by them (`checked-few`). Assumes nothing.
-use Rattle.std.specs.Prelude.{◌≡◌, ◌⊎◌, Bool, true, ◌&&◌, ℕ, ◌-◌, ◌≤◌}
+use Rattle.std.specs.Prelude.{◌≡◌, ◌⊎◌, Bool, true, ◌&&◌, ℕ, ◌-◌, ◌≤◌, Result, Ok, Err}
 use Rattle.std.proofs.Common.{arith, le-leb}
 use Rattle.answer.specs.declared.Refusal.{Refusal}
 use Rattle.answer.specs.declared.Refusal.TheVariants.{Parameter, Allowance, NotFinite, Outside}
 use Rattle.random.specs.declared.Random.{Random}
 use Rattle.random.specs.Generator.{after}
 use Rattle.random.specs.Draw.{Draw, got, run, supply_of, allowed}
-use Rattle.tree.specs.declared.Verdict.{Verdict}
-use Rattle.tree.specs.declared.Verdict.TheVariants as Verdicts
 use Rattle.tree.specs.Tree.{Tree}
 use Rattle.tree.specs.New.{validated}
 use Rattle.accepted.specs.RefusalLaws.{AtMost, either, validated-few, few-more}
@@ -84,13 +82,13 @@ module _ {A : Type 0} (limits : Bool) (program : Draw (Reply A)) (t : Tree) (g :
 -- ---- the checks' own refusals
 
 -- two checks in turn refuse with at most what each does
-pub then-few : (m : ℕ) (v w : Verdict) → AtMost m v → AtMost m w → AtMost m (and_then v w)
-then-few m Verdicts.Fine w h k = k
-then-few m (Verdicts.Refused why) w h k = h
+pub then-few : (m : ℕ) (v w : Result (Unit {0}) Refusal) → AtMost m v → AtMost m w → AtMost m (and_then v w)
+then-few m (Ok tt) w h k = k
+then-few m (Err why) w h k = h
 
 -- limits refuse with a 5
 pub limited-few : (limits : Bool) (allowance : ℕ) → AtMost 5 (limited limits allowance)
-limited-few limits allowance = either (AtMost 5) (limits && allowed allowance) {x = Verdicts.Fine} {y = Verdicts.Refused (Parameter 0)} tt (omega arith)
+limited-few limits allowance = either (AtMost 5) (limits && allowed allowance) {x = (Ok tt)} {y = Err (Parameter 0)} tt (omega arith)
 
 -- the checks of a call on a tree refuse with 1 to 5
 pub checked-few : (limits : Bool) (t : Tree) (allowance : ℕ) → AtMost 5 (checked limits t allowance)

@@ -1,7 +1,7 @@
 -- How a call goes: what it is given is checked, its program of draws is run within the allowance, and what the program ends in is given, or the
 -- call is turned back. A program ends in a value, or in the 7 or the 8 that it meets, so that past the checks only 6, 7 and 8 can turn a call
 -- back. Definitions only. Assumes nothing.
-use Rattle.std.specs.Prelude.{Bool, cond, ◌&&◌, List, ℕ, ◌-◌, Float}
+use Rattle.std.specs.Prelude.{Bool, cond, ◌&&◌, List, ℕ, ◌-◌, Float, Result, Ok, Err}
 use Rattle.answer.specs.declared.Refusal.{Refusal}
 use Rattle.answer.specs.declared.Refusal.TheVariants.{Parameter, Allowance, NotFinite, Outside}
 use Rattle.answer.specs.declared.Ratio.{Ratio}
@@ -9,8 +9,6 @@ use Rattle.answer.specs.declared.Answer.{Answer}
 use Rattle.answer.specs.declared.Answer.TheVariants as Answers
 use Rattle.random.specs.declared.Random.{Random}
 use Rattle.random.specs.Draw.{Draw, Drawn, spent, got, run, supply_of, allowed}
-use Rattle.tree.specs.declared.Verdict.{Verdict}
-use Rattle.tree.specs.declared.Verdict.TheVariants as Verdicts
 use Rattle.tree.specs.Tree.{Tree}
 use Rattle.tree.specs.New.{validated}
 
@@ -44,25 +42,25 @@ abbrev pub draws_made : {A : Type 0} → Draw A → Random → ℕ → ℕ
 draws_made program g allowance = allowance - left_of (run program (supply_of g allowance))
 
 -- "Order: 9, then 1 to 5": what the first of two checks refuses is refused
-abbrev pub and_then : Verdict → Verdict → Verdict
-and_then (Verdicts.Refused why) next = Verdicts.Refused why
-and_then Verdicts.Fine next = next
+abbrev pub and_then : Result (Unit {0}) Refusal → Result (Unit {0}) Refusal → Result (Unit {0}) Refusal
+and_then (Err why) next = Err why
+and_then (Ok tt) next = next
 
 -- 5: "a parameter outside its limits"; the allowance is one
-abbrev pub limited : Bool → ℕ → Verdict
-limited limits allowance = cond (limits && allowed allowance) Verdicts.Fine (Verdicts.Refused (Parameter 0))
+abbrev pub limited : Bool → ℕ → Result (Unit {0}) Refusal
+limited limits allowance = cond (limits && allowed allowance) (Ok tt) (Err (Parameter 0))
 
 -- the tree, then whether its other parameters are within their limits
-unfoldable pub checked : Bool → Tree → ℕ → Verdict
+unfoldable pub checked : Bool → Tree → ℕ → Result (Unit {0}) Refusal
 checked limits t allowance = and_then (validated t) (limited limits allowance)
 
 -- "then 6 to 8 as the move meets them"
-abbrev pub past : {A : Type 0} → Verdict → Ending A → Ending A
-past (Verdicts.Refused why) e = refused why
-past Verdicts.Fine e = e
+abbrev pub past : {A : Type 0} → Result (Unit {0}) Refusal → Ending A → Ending A
+past (Err why) e = refused why
+past (Ok tt) e = e
 
 -- a call that was checked, with a program
-abbrev pub run_call : {A : Type 0} → Verdict → Draw (Reply A) → Random → ℕ → Ending A
+abbrev pub run_call : {A : Type 0} → Result (Unit {0}) Refusal → Draw (Reply A) → Random → ℕ → Ending A
 run_call verdict program g allowance = past verdict (ended allowance (run program (supply_of g allowance)))
 
 -- a call on the tree t with a program that was made for it

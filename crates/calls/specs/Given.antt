@@ -1,6 +1,6 @@
 -- The forms in which the code of the moves hands on what the definitions say. A turn is a move on a tree and with parameters that have been
 -- checked; it takes a supply, and hands on how it ended, the supply after it, and the lent slices. Definitions only. Assumes nothing.
-use Rattle.std.specs.Prelude.{cond, List, ℕ, ◌-◌, Float}
+use Rattle.std.specs.Prelude.{cond, List, ℕ, ◌-◌, Float, Option, Some, None}
 use Rattle.answer.specs.declared.Refusal.{Refusal}
 use Rattle.answer.specs.declared.Refusal.TheVariants.{Allowance, NotFinite, Outside}
 use Rattle.answer.specs.declared.Answer.TheVariants as Answers
@@ -10,8 +10,6 @@ use Rattle.random.specs.Draw.{Drawn, spent, got}
 use Rattle.tree.specs.Tree.{Tree}
 use Rattle.rules.specs.Rules.{within}
 use Rattle.calls.specs.declared.Answered.{Answered}
-use Rattle.calls.specs.declared.Height.{Height}
-use Rattle.calls.specs.declared.Height.TheVariants as Heights
 use Rattle.calls.specs.declared.Turned.{Turned}
 use Rattle.calls.specs.declared.Turned.TheVariants as Turns
 use Rattle.calls.specs.declared.Turn.{Turn}
@@ -57,5 +55,5 @@ answered_of (Turns.Outside k) s g allowance = turned_back (Outside k) g
 
 -- ---- a drawn height
 
-abbrev pub height_of : Float → Float → Float → Height
-height_of lower upper u = let x = interpolated lower upper u in cond (within lower x upper) (Heights.At x) Heights.Outside
+abbrev pub height_of : Float → Float → Float → Option Float
+height_of lower upper u = let x = interpolated lower upper u in cond (within lower x upper) (Some x) None

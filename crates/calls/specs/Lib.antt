@@ -1,6 +1,7 @@
 -- Call says how a call goes, Change how one on parameters does, Draws what several moves draw, Chosen what a uniform was taken for, Given has the forms of the
--- code. RunLaws holds of every call, CallLaws and LeavesLaws of those on a tree, ChangeLaws of those on parameters; EntryLaws, RedrawLaws and HeightLaws are for
--- the code of the moves, LeastLaws, YieldLaws and StepLaws for their theorems too. FactorLaws bound the factor of a scale.
+-- code, and Harmless what holds of an unvalidated call. RedrawLaws are for the code of the moves, LeastLaws, YieldLaws and StepLaws for their theorems too;
+-- FactorLaws bound the factor of a scale. In proofs/, RunLaws holds of every call, TreeCallLaws and LeavesLaws of those on a tree, ChangeLaws of those on
+-- parameters; EntryLaws, HarmlessLaws and HeightLaws are for the code of the moves.
 pub mod Call
 pub mod Change
 pub mod Draws

@@ -4,18 +4,18 @@
 // these calls; neither asks anything. Assumes nothing.
 #![tactic(auto)]
 
-ghost use Rattle.std.specs.Prelude.{◌≡◌, ◌-◌};
-ghost use Rattle.random.specs.Draw.{pick, drawn_number};
+ghost use Rattle.std.specs.Prelude.{◌≡◌};
+ghost use Rattle.random.specs.Draw.{pick, drawn};
 ghost use Rattle.rules.specs.Rules.{one_internal, within};
 ghost use Rattle.calls.specs.Call.{limited};
 ghost use Rattle.calls.specs.Draws.{non_root, internal, scaler, tuned};
 ghost use Rattle.calls.specs.Given.{turned_back, answered_of, height_of};
 
 use answer::{Answer, Moved, Ratio, Refusal};
-use random::{DrawnNumber, Random, Supply};
-use tree::Verdict;
+use random::{Random, Supply};
 
-const LEAST_TUNING: u64 = 0x3e45_798e_e230_8c3a;
+// 1e-8.
+const LEAST_TUNING: f64 = 1e-8;
 
 // An answer, and the generator after the call.
 #[derive(Clone, Copy)]
@@ -42,66 +42,37 @@ pub struct Turn {
     pub supply: Supply,
 }
 
-// A height that is inside its interval, or that one is not.
-#[derive(Clone, Copy)]
-pub enum Height {
-    At(f64),
-    Outside,
-}
-
 // Whether the call may go on, once its tree is checked: its parameters are within their limits, and the allowance is.
-pub fn check_limits(limits: bool, allowance: u32) -> Verdict
+pub fn check_limits(limits: bool, allowance: u32) -> Result<(), Refusal>
     ensures { result ≡ limited limits allowance }
 {
-    if limits {
-        if random::is_allowed(allowance) {
-            return Verdict::Fine;
-        }
-        return Verdict::Refused(Refusal::Parameter(0));
+    if limits && random::is_allowed(allowance) {
+        Ok(())
+    } else {
+        Err(Refusal::Parameter(0))
     }
-    Verdict::Refused(Refusal::Parameter(0))
 }
 
-// The draws made, of those allowed and those left; none where more are left.
-fn draws_made(allowance: u32, left: u32) -> u32
-    ensures { result ≡ allowance - left }
-{
-    if left < allowance {
-        return allowance - left;
-    }
-    0
-}
-
-// The call's answer, from its turn and the generator as it came.
+// The call's answer, from its turn and the generator as it came. Draws made are those allowed less those left; none where more are left.
+#[tactic(auto, unfolding(crate::specs::Given::answered_of))]
 pub fn answer(turn: Turn, random: Random, allowance: u32) -> Answered
     ensures { result ≡ answered_of turn.turned turn.supply random allowance }
 {
-    let supply = turn.supply;
+    let Turn { turned, supply } = turn;
     let after = supply.random;
-    let draws = draws_made(allowance, supply.left);
-    let turned = turn.turned;
+    let draws = allowance.saturating_sub(supply.left);
     match turned {
-        Turned::Moved(root, ratio) => {
-            return Answered {
-                answer: Answer::Moved(Moved { root, draws, ratio }),
-                random: after,
-            };
-        }
-        Turned::Declined => {
-            return Answered {
-                answer: Answer::Declined(draws),
-                random: after,
-            };
-        }
-        Turned::Spent => {
-            return refuse(Refusal::Allowance(allowance), random);
-        }
-        Turned::NotFinite(node) => {
-            return refuse(Refusal::NotFinite(node), random);
-        }
-        Turned::Outside(node) => {
-            return refuse(Refusal::Outside(node), random);
-        }
+        Turned::Moved(root, ratio) => Answered {
+            answer: Answer::Moved(Moved { root, draws, ratio }),
+            random: after,
+        },
+        Turned::Declined => Answered {
+            answer: Answer::Declined(draws),
+            random: after,
+        },
+        Turned::Spent => refuse(Refusal::Allowance(allowance), random),
+        Turned::NotFinite(node) => refuse(Refusal::NotFinite(node), random),
+        Turned::Outside(node) => refuse(Refusal::Outside(node), random),
     }
 }
 
@@ -116,13 +87,15 @@ pub fn refuse(why: Refusal, random: Random) -> Answered
 }
 
 // A node of n other than the root.
-pub fn non_root(s: Supply, n: usize, root: usize) -> DrawnNumber
-    ensures { result ≡ drawn_number s (pick (non_root n root) s) }
+#[tactic(auto, using(crate::proofs::DrawnLaws::non_root_laws))]
+pub fn non_root(s: Supply, n: usize, root: usize) -> Option<(usize, Supply)>
+    ensures { result ≡ drawn (pick (non_root n root) s) }
 {
     s.below_other(n, 0, root)
 }
 
 // Whether n nodes have one internal node: half of them are internal, rounded down.
+#[tactic(auto, using(crate::proofs::DrawnLaws::internal_laws))]
 pub fn is_one_internal(n: usize) -> bool
     ensures { result ≡ one_internal n }
 {
@@ -130,27 +103,17 @@ pub fn is_one_internal(n: usize) -> bool
 }
 
 // An internal node of n.
-pub fn internal(s: Supply, n: usize) -> DrawnNumber
-    ensures { result ≡ drawn_number s (pick (internal n) s) }
+#[tactic(auto, using(crate::proofs::DrawnLaws::internal_laws))]
+pub fn internal(s: Supply, n: usize) -> Option<(usize, Supply)>
+    ensures { result ≡ drawn (pick (internal n) s) }
 {
     let half = n / 2;
-    let d = s.below(half);
-    let supply = d.supply;
-    if d.ok {
-        return DrawnNumber {
-            ok: true,
-            value: n - half + d.value,
-            supply,
-        };
-    }
-    DrawnNumber {
-        ok: false,
-        value: 0,
-        supply: s,
-    }
+    let (k, after) = s.below(half)?;
+    Some((n - half + k, after))
 }
 
 // The factor of a scale, from its tuning and a uniform.
+#[tactic(auto, unfolding(crate::specs::Draws::scaler))]
 pub fn scaler(s: f64, u: f64) -> f64
     ensures { result ≡ scaler s u }
 {
@@ -161,7 +124,7 @@ pub fn scaler(s: f64, u: f64) -> f64
 pub fn is_tuned(s: f64) -> bool
     ensures { result ≡ tuned s }
 {
-    is_within(f64::from_bits(LEAST_TUNING), s, 1.0)
+    is_within(LEAST_TUNING, s, 1.0)
 }
 
 // Whether a height is in an interval, both ends included.
@@ -172,12 +135,10 @@ pub fn is_within(lower: f64, x: f64, upper: f64) -> bool
 }
 
 // The height that a uniform takes in an interval, and whether it is inside.
-pub fn interpolate(lower: f64, upper: f64, u: f64) -> Height
+#[tactic(auto, unfolding(crate::specs::Draws::interpolated))]
+pub fn interpolate(lower: f64, upper: f64, u: f64) -> Option<f64>
     ensures { result ≡ height_of lower upper u }
 {
     let x = lower + u * (upper - lower);
-    if is_within(lower, x, upper) {
-        return Height::At(x);
-    }
-    Height::Outside
+    is_within(lower, x, upper).then_some(x)
 }

@@ -2,14 +2,12 @@
 use mathlib.Core.Path.{◌≡◌, refl, sym, ◌∙◌, subst}
 use mathlib.Core.Bool.{Bool}
 use mathlib.Core.List.{List, [], ◌∷◌}
-use Prim.Native.Nat.{ℕ, suc, ◌+◌, ◌-◌, ◌*◌, ◌≤◌, ◌<◌}
+use Prim.Native.Nat.{ℕ, suc, ◌+◌, ◌-◌, ◌≤◌, ◌<◌}
 use native.Mathlib.Omega.{arith}
 use native.Mathlib.Numerals.{add-one}
 use native.Mathlib.Decide.{ℕ_discrete, dec_lt}
 use lib.ListN.{length, get_or, set, drop, length-set}
 use lib.Seq.{drop-cons, drop-length, drop-nil, drop-drop, get_or-set_same, get_or-set_other}
-use mir.Val.{Fits}
-use mir.Syntax.{w64}
 use borrow.Author.Tests.{lt-ltb, le-ltb, eq-eqb, ne_eqb}
 use Rattle.tree.specs.Tree.{Tree, first_in, second_in, postorder}
 use Rattle.tree.specs.Valid.{Valid}
@@ -116,9 +114,6 @@ module _ (pairs : List ℕ) (members : List Bool) (order weights : List ℕ) (ot
       pub find-node : get_or order at 0 < length weights
       find-node = find-weighs.node
 
-      pub find-place : Fits w64 (get_or order at 0 * 4)
-      find-place = let a = find-weighs.node in let b = find-weighs.few in record { fits = omega arith }
-
       module _ (b : ℕ) (e : b ≡ weighed pairs members weights others (get_or order at 0)) where
         rest : drop at order ≡ k ∷ drop (suc at) order
         rest = drop-cons order at 0 h
@@ -148,4 +143,4 @@ module _ (pairs : List ℕ) (members : List Bool) (order weights : List ℕ) (ot
     unfolding first_or
     find-end h = sym (g.passed ∙ rw (drop_all order at h))
 
-pub ruleset find_laws = (find-start, find-weighs, find-node, find-place, find-found, find-next, find-end, wide16)
+pub ruleset find_laws = (find-start, find-weighs, find-node, find-found, find-next, find-end, wide16)

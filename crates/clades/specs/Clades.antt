@@ -1,19 +1,12 @@
 -- Sets of tips, given by "one mark per tip": whether one is monophyletic, and the age of its clade. Definitions only. Assumes nothing.
-use Rattle.std.specs.Prelude.{Bool, false, not, ◌||◌, cond, List, [], ◌∷◌, ℕ, eqb, length, get_or}
+use Rattle.std.specs.Prelude.{Bool, false, not, ◌||◌, cond, List, [], ◌∷◌, ℕ, eqb, length, get_or, Option, Some, None, Result, Ok, Err}
 use Rattle.std.specs.Bool.{beq}
 use Rattle.answer.specs.declared.Refusal.TheVariants.{Size, Parameter}
-use Rattle.real.specs.declared.Printed.{Printed}
-use Rattle.real.specs.declared.Printed.TheVariants as Printings
 use Rattle.real.specs.Printed.{printed_of}
-use Rattle.tree.specs.declared.Verdict.{Verdict}
-use Rattle.tree.specs.declared.Verdict.TheVariants as Verdicts
 use Rattle.tree.specs.Tree.{Tree, nodes_of, tips_of, parent, height, subtree, postorder}
 use Rattle.tree.specs.New.{validated}
 use Rattle.tree.specs.Bounded.{every, some, count_to}
-use Rattle.clades.specs.declared.Monophyly.{Monophyly}
-use Rattle.clades.specs.declared.Monophyly.TheVariants as Monophylies
-use Rattle.clades.specs.declared.Age.{Age}
-use Rattle.clades.specs.declared.Age.TheVariants as Ages
+use Rattle.answer.specs.declared.Refusal.{Refusal}
 
 -- ---- tests of numbers
 
@@ -64,29 +57,29 @@ age_node t members = cond (eqb (size_of members) 1) (parent t (clade_node t memb
 
 -- ---- the calls: marks that are not one for each tip are refusal 1, as lengths that disagree are
 
-abbrev pub monophyly_answered : Bool → Verdict → Monophyly
-monophyly_answered is Verdicts.Fine = Monophylies.Is is
-monophyly_answered is (Verdicts.Refused why) = Monophylies.Refused why
+abbrev pub monophyly_answered : Bool → Result (Unit {0}) Refusal → Result Bool Refusal
+monophyly_answered is (Ok tt) = Ok is
+monophyly_answered is (Err why) = Err why
 
-unfoldable pub monophyly_call : Tree → List Bool → Monophyly
+unfoldable pub monophyly_call : Tree → List Bool → Result Bool Refusal
 monophyly_call t members =
     let n = nodes_of t.pairs in
-    monophyly_answered (monophyletic t members) (cond (eqb (length members) (tips_of n)) (validated t) (Verdicts.Refused (Size n)))
+    monophyly_answered (monophyletic t members) (cond (eqb (length members) (tips_of n)) (validated t) (Err (Size n)))
 
 -- "that node at 2^43 or more, gives refusal 5"
-abbrev pub age_printed : Printed → Age
-age_printed (Printings.Thousandths count) = Ages.Thousandths count
-age_printed Printings.Outside = Ages.Refused (Parameter 0)
+abbrev pub age_printed : Option ℕ → Result ℕ Refusal
+age_printed (Some count) = Ok count
+age_printed None = Err (Parameter 0)
 
 -- "an empty set" is refused too
-unfoldable pub clade_age : Tree → List Bool → Age
-clade_age t members = cond (some (marked members) (length members)) (age_printed (printed_of (height t (age_node t members)))) (Ages.Refused (Parameter 0))
+unfoldable pub clade_age : Tree → List Bool → Result ℕ Refusal
+clade_age t members = cond (some (marked members) (length members)) (age_printed (printed_of (height t (age_node t members)))) (Err (Parameter 0))
 
-abbrev pub age_answered : Age → Verdict → Age
-age_answered age Verdicts.Fine = age
-age_answered age (Verdicts.Refused why) = Ages.Refused why
+abbrev pub age_answered : Result ℕ Refusal → Result (Unit {0}) Refusal → Result ℕ Refusal
+age_answered age (Ok tt) = age
+age_answered age (Err why) = Err why
 
-unfoldable pub age_call : Tree → List Bool → Age
+unfoldable pub age_call : Tree → List Bool → Result ℕ Refusal
 age_call t members =
     let n = nodes_of t.pairs in
-    age_answered (clade_age t members) (cond (eqb (length members) (tips_of n)) (validated t) (Verdicts.Refused (Size n)))
+    age_answered (clade_age t members) (cond (eqb (length members) (tips_of n)) (validated t) (Err (Size n)))

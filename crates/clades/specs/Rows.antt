@@ -1,6 +1,6 @@
 -- Every set of the tips of tree F, and sets of F at other heights, as rows of one statement on the definitions (`clade-rows`): whether the set is monophyletic,
 -- and its age. Assumes nothing.
-use Rattle.std.specs.Prelude.{◌≡◌, refl, Bool, true, false, [], ◌∷◌, Float}
+use Rattle.std.specs.Prelude.{◌≡◌, refl, Bool, true, false, [], ◌∷◌, Float, Result, Ok, Err, ℕ}
 use Rattle.std.specs.Float.{binary64}
 use Rattle.std.specs.Float.Ieee.{of_bits, lt, le, eq}
 use Rattle.answer.specs.declared.Refusal.TheVariants.{Parameter}
@@ -9,10 +9,8 @@ use Rattle.real.specs.Printed.{printed_of, thousandths_of}
 use Rattle.tree.specs.Tree.{Tree, no_node, parent, height, subtree}
 use Rattle.tree.specs.Bounded.{every, some, count_to}
 use Rattle.tree.specs.New.{validated, judged, scanned, scan, visit, then_adopt, adopt, joined, roots, agree, misdated, lowest}
-use Rattle.clades.specs.declared.Age.{Age}
-use Rattle.clades.specs.declared.Age.TheVariants.{Thousandths, Refused}
-use Rattle.clades.specs.declared.Monophyly.TheVariants.{Is}
 use Rattle.clades.specs.Clades.{has, first_of, size_of, exactly, over, monophyletic, clade_node, age_node, clade_age, age_call, monophyly_call}
+use Rattle.answer.specs.declared.Refusal.{Refusal}
 
 -- ---- trees
 
@@ -44,28 +42,28 @@ F = F-at Real.zero two
 -- ---- the rows
 
 -- of the tips that are marked: whether they are a clade, and its age
-abbrev Row : Tree → Bool → Bool → Bool → Bool → Age → Type 0
-Row t m0 m1 m2 is age = (monophyly_call t (m0 ∷ m1 ∷ m2 ∷ []) ≡ Is is) × (age_call t (m0 ∷ m1 ∷ m2 ∷ []) ≡ age)
+abbrev Row : Tree → Bool → Bool → Bool → Bool → Result ℕ Refusal → Type 0
+Row t m0 m1 m2 is age = (monophyly_call t (m0 ∷ m1 ∷ m2 ∷ []) ≡ Ok is) × (age_call t (m0 ∷ m1 ∷ m2 ∷ []) ≡ age)
 
 pub record CladeRows : Type 0 where
   -- every set of F's tips: of one tip "its parent's height", of more that of "document 01's node"; "an empty set" is refused
-  pub no_tips : Row F false false false false (Refused (Parameter 0))
-  pub tip_0 : Row F true false false true (Thousandths 1000)
-  pub tip_1 : Row F false true false true (Thousandths 1000)
-  pub tip_2 : Row F false false true true (Thousandths 2000)
-  pub tips_0_1 : Row F true true false true (Thousandths 1000)
-  pub tips_0_2 : Row F true false true false (Thousandths 2000)
-  pub tips_1_2 : Row F false true true false (Thousandths 2000)
-  pub all_tips : Row F true true true true (Thousandths 2000)
+  pub no_tips : Row F false false false false (Err (Parameter 0))
+  pub tip_0 : Row F true false false true (Ok 1000)
+  pub tip_1 : Row F false true false true (Ok 1000)
+  pub tip_2 : Row F false false true true (Ok 2000)
+  pub tips_0_1 : Row F true true false true (Ok 1000)
+  pub tips_0_2 : Row F true false true false (Ok 2000)
+  pub tips_1_2 : Row F false true true false (Ok 2000)
+  pub all_tips : Row F true true true true (Ok 2000)
   -- the height of a tip that is above 0 is "no longer its own"
-  pub above : Row (F-at half two) true false false true (Thousandths 1000)
+  pub above : Row (F-at half two) true false false true (Ok 1000)
   -- nor is the next node taken where a tip is level with its parent
-  pub level : Row (F-at one two) true false false true (Thousandths 1000)
-  pub level_pair : Row (F-at one two) true true false true (Thousandths 1000)
+  pub level : Row (F-at one two) true false false true (Ok 1000)
+  pub level_pair : Row (F-at one two) true true false true (Ok 1000)
   -- "that node at 2^43 or more" is the one by which the set is dated
-  pub old_stem : Row (F-at Real.zero limit) false false true true (Refused (Parameter 0))
-  pub old_crown : Row (F-at Real.zero limit) true false true false (Refused (Parameter 0))
-  pub young_stem : Row (F-at Real.zero limit) true false false true (Thousandths 1000)
+  pub old_stem : Row (F-at Real.zero limit) false false true true (Err (Parameter 0))
+  pub old_crown : Row (F-at Real.zero limit) true false true false (Err (Parameter 0))
+  pub young_stem : Row (F-at Real.zero limit) true false false true (Ok 1000)
 
 -- each by computation
 pub clade-rows : CladeRows

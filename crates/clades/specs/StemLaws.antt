@@ -3,7 +3,7 @@
 -- 01's (`crown-age`) and an empty set has none (`no-age`); and a set of one tip is monophyletic (`one-monophyletic`). Assumes nothing.
 use Rattle.std.proofs.Math.Path.{◌≡◌, sym}
 use Rattle.std.proofs.Common.{ap, ◌∙◌, true≢false, arith}
-use Rattle.std.specs.Prelude.{Bool, true, false, cond, List, ℕ, ◌≤◌, ◌<◌, length}
+use Rattle.std.specs.Prelude.{Bool, true, false, cond, List, ℕ, ◌≤◌, ◌<◌, length, Ok, Err}
 use Rattle.std.proofs.Math.Decide.{ℕ_discrete, dec_lt}
 use Rattle.std.proofs.Math.ListN.{get_or-eq_default}
 use borrow.Author.Tests.{eq-eqb, ne_eqb}
@@ -17,8 +17,6 @@ use Rattle.tree.specs.BoundedLaws.{some_at}
 use Rattle.accepted.specs.AcceptedLaws.{accepted-valid}
 use Rattle.accepted.specs.ValidatedLaws.{valid-fine}
 use Rattle.accepted.specs.RootLaws.{root-inner}
-use Rattle.clades.specs.declared.Monophyly.TheVariants as Monophylies
-use Rattle.clades.specs.declared.Age.TheVariants as Ages
 use Rattle.clades.specs.Clades.{marked, size_of, exactly, monophyletic, clade_node, age_node, age_printed, clade_age, age_call, monophyly_call}
 use Rattle.clades.specs.Counting.{weighs}
 use Rattle.clades.specs.WeightLaws.{weight-at, size_none, size-some, weight-tip, weighs-exactly}
@@ -106,11 +104,11 @@ module _ (t : Tree) (a : Accepted t) (members : List Bool) (M : length members �
   crown-age more = answered ∙ rw (size-some members (λ z. omega arith), ne_eqb (size_of members) 1 (λ z. omega arith))
 
   -- document 01: "an empty set ... gives refusal 5"
-  pub no-age : size_of members ≡ 0 → age_call t members ≡ Ages.Refused (Parameter 0)
+  pub no-age : size_of members ≡ 0 → age_call t members ≡ Err (Parameter 0)
   unfolding clade_age
   no-age none = answered ∙ rw (size_none members none)
 
   -- "a single tip counts as a clade"
-  pub one-monophyletic : size_of members ≡ 1 → monophyly_call t members ≡ Monophylies.Is true
+  pub one-monophyletic : size_of members ≡ 1 → monophyly_call t members ≡ Ok true
   unfolding monophyly_call
   one-monophyletic one = rw (eq-eqb _ _ M, valid-fine (nodes_of t.pairs) t valid, one-exactly (nodes_of t.pairs) t valid members M one)

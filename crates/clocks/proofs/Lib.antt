@@ -1,3 +1,3 @@
 -- The laws that the proofs of clocks share: one for each way through a function.
 mod ClockLaws
-mod MadeLaws
+pub mod MadeLaws

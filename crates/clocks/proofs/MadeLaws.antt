@@ -1,6 +1,6 @@
 -- What the answers of the scales of a clock come from: a call that scaled has drawn a factor (for BranchRateScale, the index of a rate before it) that leaves a finite,
 -- positive value (`sigma-made`, `rate-made`), and one that declined has no clock or has drawn one that does not (`sigma-unmade`, `rate-unmade`). Assumes nothing.
-use Rattle.std.specs.Prelude.{◌≡◌, ◌⊎◌, ℕ, ◌<◌, get_or, set, Float}
+use Rattle.std.specs.Prelude.{◌≡◌, ◌⊎◌, ℕ, ◌<◌, get_or, set, Float, Option, Some, None}
 use Rattle.std.proofs.Math.Path.{refl}
 use Rattle.std.proofs.Math.Logic.{inl, inr}
 use mathlib.Core.List.{List}
@@ -13,8 +13,6 @@ use Rattle.random.specs.declared.Random.{Random}
 use Rattle.random.specs.Draw.{below, run, supply_of}
 use Rattle.random.specs.Lawful.{Yields}
 use Rattle.random.proofs.DrawLaws.{below-yields}
-use Rattle.real.specs.declared.Optional.{Optional}
-use Rattle.real.specs.declared.Optional.TheVariants.{Missing, Given}
 use Rattle.real.specs.Real.{positive}
 use Rattle.calls.specs.Change.{Change, declined, scaled}
 use Rattle.calls.proofs.RunLaws.{clash}
@@ -28,25 +26,25 @@ use Rattle.clocks.specs.Clocks.{clock_limits, clock_sigma, clock_sigma_call, bra
 
 module _ (rates : List Float) (tuning : Float) (g : Random) (a : ℕ) where
   -- a call that scaled was given a sigma, and left it times a factor
-  pub sigma-made : (sigma : Optional) (draws : ℕ) (r : Ratio) → (clock_sigma_call sigma rates tuning g a).answer ≡ Proposals.Scaled draws r
-      → (x : Float) × (sigma ≡ Given x) × PartScales Given tuning (mul binary64 x) positive (clock_sigma_call sigma rates tuning g a).value r
+  pub sigma-made : (sigma : Option Float) (draws : ℕ) (r : Ratio) → (clock_sigma_call sigma rates tuning g a).answer ≡ Proposals.Scaled draws r
+      → (x : Float) × (sigma ≡ Some x) × PartScales Some tuning (mul binary64 x) positive (clock_sigma_call sigma rates tuning g a).value r
   unfolding clock_sigma run
-  sigma-made Missing draws r q =
-      let c = value_made (clock_limits Missing rates tuning) (clock_sigma Missing tuning) Missing g a draws r q in
+  sigma-made None draws r q =
+      let c = value_made (clock_limits None rates tuning) (clock_sigma None tuning) None g a draws r q in
       let e = c.ran in
       clash cc
-  sigma-made (Given x) draws r q =
-      let c = value_made (clock_limits (Given x) rates tuning) (clock_sigma (Given x) tuning) (Given x) g a draws r q in
-      (x, refl, placed-made Given tuning (mul binary64 x) positive (placed-yields Given tuning (mul binary64 x) positive (supply_of g a) _ c.supply c.ran))
+  sigma-made (Some x) draws r q =
+      let c = value_made (clock_limits (Some x) rates tuning) (clock_sigma (Some x) tuning) (Some x) g a draws r q in
+      (x, refl, placed-made Some tuning (mul binary64 x) positive (placed-yields Some tuning (mul binary64 x) positive (supply_of g a) _ c.supply c.ran))
 
   -- one that declined has no clock, or has drawn a factor for which sigma times it is not finite and positive
-  pub sigma-unmade : (sigma : Optional) (draws : ℕ) → (clock_sigma_call sigma rates tuning g a).answer ≡ Proposals.Declined draws
-      → (sigma ≡ Missing) ⊎ ((x : Float) × (sigma ≡ Given x) × Declines tuning (mul binary64 x) positive)
+  pub sigma-unmade : (sigma : Option Float) (draws : ℕ) → (clock_sigma_call sigma rates tuning g a).answer ≡ Proposals.Declined draws
+      → (sigma ≡ None) ⊎ ((x : Float) × (sigma ≡ Some x) × Declines tuning (mul binary64 x) positive)
   unfolding clock_sigma
-  sigma-unmade Missing draws q = inl refl
-  sigma-unmade (Given x) draws q =
-      let c = value-unmade (clock_limits (Given x) rates tuning) (clock_sigma (Given x) tuning) (Given x) g a draws q in
-      inr (x, refl, placed-unmade Given tuning (mul binary64 x) positive (placed-yields Given tuning (mul binary64 x) positive (supply_of g a) _ c.supply c.ran))
+  sigma-unmade None draws q = inl refl
+  sigma-unmade (Some x) draws q =
+      let c = value-unmade (clock_limits (Some x) rates tuning) (clock_sigma (Some x) tuning) (Some x) g a draws q in
+      inr (x, refl, placed-unmade Some tuning (mul binary64 x) positive (placed-yields Some tuning (mul binary64 x) positive (supply_of g a) _ c.supply c.ran))
 
 -- ---- BranchRateScale
 
@@ -62,29 +60,29 @@ module _ (rates : List Float) (tuning : Float) (g : Random) (a : ℕ) where
       (λ i l s c u e. at_index i l (placed-yields (set rates i) tuning (mul binary64 (get_or rates i nan)) positive s c u e))
 
   -- a call that scaled was given a clock, and left one of its rates times a factor
-  pub rate-made : (sigma : Optional) (draws : ℕ) (r : Ratio) → (branch_rate_call sigma rates tuning g a).answer ≡ Proposals.Scaled draws r
-      → (x : Float) × (sigma ≡ Given x)
+  pub rate-made : (sigma : Option Float) (draws : ℕ) (r : Ratio) → (branch_rate_call sigma rates tuning g a).answer ≡ Proposals.Scaled draws r
+      → (x : Float) × (sigma ≡ Some x)
       × (i : ℕ) × (i < length rates) × PartScales (set rates i) tuning (mul binary64 (get_or rates i nan)) positive (branch_rate_call sigma rates tuning g a).value r
   unfolding branch_rate run
-  rate-made Missing draws r q =
-      let c = value_made (clock_limits Missing rates tuning) (branch_rate Missing rates tuning) rates g a draws r q in
+  rate-made None draws r q =
+      let c = value_made (clock_limits None rates tuning) (branch_rate None rates tuning) rates g a draws r q in
       let e = c.ran in
       clash cc
-  rate-made (Given x) draws r q =
-      let c = value_made (clock_limits (Given x) rates tuning) (branch_rate (Given x) rates tuning) rates g a draws r q in
+  rate-made (Some x) draws r q =
+      let c = value_made (clock_limits (Some x) rates tuning) (branch_rate (Some x) rates tuning) rates g a draws r q in
       go (indexed-yields (supply_of g a) _ c.supply c.ran)
     where
       go : {w : List Float} → RateChange rates tuning (scaled w r)
-          → (y : Float) × (Given x ≡ Given y) × (i : ℕ) × (i < length rates) × PartScales (set rates i) tuning (mul binary64 (get_or rates i nan)) positive w r
+          → (y : Float) × (Some x ≡ Some y) × (i : ℕ) × (i < length rates) × PartScales (set rates i) tuning (mul binary64 (get_or rates i nan)) positive w r
       go (at_index i l p) = (x, refl, i, l, placed-made (set rates i) tuning (mul binary64 (get_or rates i nan)) positive p)
 
   -- one that declined has no clock, or has drawn an index and a factor for which the rate times it is not finite and positive
-  pub rate-unmade : (sigma : Optional) (draws : ℕ) → (branch_rate_call sigma rates tuning g a).answer ≡ Proposals.Declined draws
-      → (sigma ≡ Missing) ⊎ ((i : ℕ) × (i < length rates) × Declines tuning (mul binary64 (get_or rates i nan)) positive)
+  pub rate-unmade : (sigma : Option Float) (draws : ℕ) → (branch_rate_call sigma rates tuning g a).answer ≡ Proposals.Declined draws
+      → (sigma ≡ None) ⊎ ((i : ℕ) × (i < length rates) × Declines tuning (mul binary64 (get_or rates i nan)) positive)
   unfolding branch_rate
-  rate-unmade Missing draws q = inl refl
-  rate-unmade (Given x) draws q =
-      let c = value-unmade (clock_limits (Given x) rates tuning) (branch_rate (Given x) rates tuning) rates g a draws q in
+  rate-unmade None draws q = inl refl
+  rate-unmade (Some x) draws q =
+      let c = value-unmade (clock_limits (Some x) rates tuning) (branch_rate (Some x) rates tuning) rates g a draws q in
       inr (go (indexed-yields (supply_of g a) _ c.supply c.ran))
     where
       go : RateChange rates tuning declined → (i : ℕ) × (i < length rates) × Declines tuning (mul binary64 (get_or rates i nan)) positive

@@ -1,6 +1,6 @@
 -- Calls of the scales of a relaxed clock as rows of one statement on the definitions (`clock-rows`): what each scales, what it declines with its draws
 -- and without, and what turns it back. Of what each call leaves, all is said. Assumes nothing.
-use Rattle.std.specs.Prelude.{◌≡◌, refl, List, [], ◌∷◌, Float}
+use Rattle.std.specs.Prelude.{◌≡◌, refl, List, [], ◌∷◌, Float, Some, None}
 use Rattle.std.specs.Float.{binary64}
 use Rattle.std.specs.Float.Ieee.{of_bits, lt, le, add, sub, mul, div, round}
 use Rattle.words.specs.Words.{rotl}
@@ -9,7 +9,6 @@ use Rattle.random.specs.declared.Random.{Random}
 use Rattle.random.specs.Generator.{word_of, next, uniform_of}
 use Rattle.random.specs.Xoshiro.{output, step, stepped}
 use Rattle.random.specs.Draw.{run, pick, onward, word_from, until_from, uniform, draw, ◌>>=◌, below, fair}
-use Rattle.real.specs.declared.Optional.TheVariants.{Missing, Given}
 use Rattle.real.specs.Real as Real
 use Rattle.tree.specs.Bounded.{every}
 use Rattle.rates.specs.Clock.{clock_fits}
@@ -71,41 +70,41 @@ third_scaled = of_bits binary64 0x3ff8_0099_0000_4800
 
 pub record ClockRows : Type 0 where
   -- ClockSigmaScale: sigma times a factor, by one draw
-  pub sigma : clock_sigma_call (Given 3·0) rates 0·5 start 1 ≡ scales_to (Given three_scaled) example 1 after_one
+  pub sigma : clock_sigma_call (Some 3·0) rates 0·5 start 1 ≡ scales_to (Some three_scaled) example 1 after_one
   -- "unless finite and positive", after the draw
-  pub sigma_to_zero : clock_sigma_call (Given tiny) rates 0·25 start 9 ≡ declines (Given tiny) 1 after_one
-  pub sigma_to_infinity : clock_sigma_call (Given greatest) rates 0·5 upper 9 ≡ declines (Given greatest) 1 upper_one
+  pub sigma_to_zero : clock_sigma_call (Some tiny) rates 0·25 start 9 ≡ declines (Some tiny) 1 after_one
+  pub sigma_to_infinity : clock_sigma_call (Some greatest) rates 0·5 upper 9 ≡ declines (Some greatest) 1 upper_one
   -- no clock: undrawn, whatever the rates are, within the limits
-  pub sigma_missing : clock_sigma_call Missing (0·0 ∷ []) 0·5 start 9 ≡ declines Missing 0 start
-  pub sigma_missing_tuning : clock_sigma_call Missing rates 2·0 start 9 ≡ refuses Missing (Parameter 0) start
-  pub sigma_missing_no_draws : clock_sigma_call Missing rates 0·5 start 0 ≡ refuses Missing (Parameter 0) start
+  pub sigma_missing : clock_sigma_call None (0·0 ∷ []) 0·5 start 9 ≡ declines None 0 start
+  pub sigma_missing_tuning : clock_sigma_call None rates 2·0 start 9 ≡ refuses None (Parameter 0) start
+  pub sigma_missing_no_draws : clock_sigma_call None rates 0·5 start 0 ≡ refuses None (Parameter 0) start
   -- 5: "clock as `RelaxedClock::new`"
-  pub sigma_zero : clock_sigma_call (Given 0·0) rates 0·5 start 9 ≡ refuses (Given 0·0) (Parameter 0) start
-  pub sigma_one_rate : clock_sigma_call (Given 3·0) (3·0 ∷ []) 0·5 start 9 ≡ refuses (Given 3·0) (Parameter 0) start
-  pub sigma_rate_zero : clock_sigma_call (Given 3·0) (3·0 ∷ 0·0 ∷ []) 0·5 start 9 ≡ refuses (Given 3·0) (Parameter 0) start
-  pub sigma_rate_infinite : clock_sigma_call (Given 3·0) (Real.infinity ∷ 3·0 ∷ []) 0·5 start 9 ≡ refuses (Given 3·0) (Parameter 0) start
-  pub sigma_tuning : clock_sigma_call (Given 3·0) rates 2·0 start 9 ≡ refuses (Given 3·0) (Parameter 0) start
-  pub sigma_no_draws : clock_sigma_call (Given 3·0) rates 0·5 start 0 ≡ refuses (Given 3·0) (Parameter 0) start
+  pub sigma_zero : clock_sigma_call (Some 0·0) rates 0·5 start 9 ≡ refuses (Some 0·0) (Parameter 0) start
+  pub sigma_one_rate : clock_sigma_call (Some 3·0) (3·0 ∷ []) 0·5 start 9 ≡ refuses (Some 3·0) (Parameter 0) start
+  pub sigma_rate_zero : clock_sigma_call (Some 3·0) (3·0 ∷ 0·0 ∷ []) 0·5 start 9 ≡ refuses (Some 3·0) (Parameter 0) start
+  pub sigma_rate_infinite : clock_sigma_call (Some 3·0) (Real.infinity ∷ 3·0 ∷ []) 0·5 start 9 ≡ refuses (Some 3·0) (Parameter 0) start
+  pub sigma_tuning : clock_sigma_call (Some 3·0) rates 2·0 start 9 ≡ refuses (Some 3·0) (Parameter 0) start
+  pub sigma_no_draws : clock_sigma_call (Some 3·0) rates 0·5 start 0 ≡ refuses (Some 3·0) (Parameter 0) start
   -- BranchRateScale: the first draw is the index, 0 or 1, the second the factor; two are enough
-  pub rate_first : branch_rate_call (Given 1·0) rates 0·5 start 2 ≡ scales_to (second_scaled ∷ 2·0 ∷ 1·0 ∷ []) second_factor 2 after_two
-  pub rate_second : branch_rate_call (Given 1·0) rates 0·5 upper 9 ≡ scales_to (3·0 ∷ upper_scaled ∷ 1·0 ∷ []) upper_factor 2 upper_two
+  pub rate_first : branch_rate_call (Some 1·0) rates 0·5 start 2 ≡ scales_to (second_scaled ∷ 2·0 ∷ 1·0 ∷ []) second_factor 2 after_two
+  pub rate_second : branch_rate_call (Some 1·0) rates 0·5 upper 9 ≡ scales_to (3·0 ∷ upper_scaled ∷ 1·0 ∷ []) upper_factor 2 upper_two
   -- an index that is drawn again
-  pub rate_again : branch_rate_call (Given 1·0) rates 0·5 again 3 ≡ scales_to (third_scaled ∷ 2·0 ∷ 1·0 ∷ []) third_factor 3 again_three
+  pub rate_again : branch_rate_call (Some 1·0) rates 0·5 again 3 ≡ scales_to (third_scaled ∷ 2·0 ∷ 1·0 ∷ []) third_factor 3 again_three
   -- "unless finite and positive", after the draws
-  pub rate_to_zero : branch_rate_call (Given 1·0) (tiny ∷ 2·0 ∷ []) 0·25 start 9 ≡ declines (tiny ∷ 2·0 ∷ []) 2 after_two
-  pub rate_to_infinity : branch_rate_call (Given 1·0) (1·0 ∷ greatest ∷ []) 0·5 upper 9 ≡ declines (1·0 ∷ greatest ∷ []) 2 upper_two
+  pub rate_to_zero : branch_rate_call (Some 1·0) (tiny ∷ 2·0 ∷ []) 0·25 start 9 ≡ declines (tiny ∷ 2·0 ∷ []) 2 after_two
+  pub rate_to_infinity : branch_rate_call (Some 1·0) (1·0 ∷ greatest ∷ []) 0·5 upper 9 ≡ declines (1·0 ∷ greatest ∷ []) 2 upper_two
   -- no clock: undrawn, whatever the rates are, within the limits
-  pub rate_missing : branch_rate_call Missing [] 0·5 start 9 ≡ declines [] 0 start
-  pub rate_missing_tuning : branch_rate_call Missing rates 2·0 start 9 ≡ refuses rates (Parameter 0) start
+  pub rate_missing : branch_rate_call None [] 0·5 start 9 ≡ declines [] 0 start
+  pub rate_missing_tuning : branch_rate_call None rates 2·0 start 9 ≡ refuses rates (Parameter 0) start
   -- 5 likewise
-  pub rate_sigma_negative : branch_rate_call (Given minus_one) rates 0·5 start 9 ≡ refuses rates (Parameter 0) start
-  pub rate_one_rate : branch_rate_call (Given 1·0) (3·0 ∷ []) 0·5 start 9 ≡ refuses (3·0 ∷ []) (Parameter 0) start
-  pub rate_tuning : branch_rate_call (Given 1·0) rates 2·0 start 9 ≡ refuses rates (Parameter 0) start
-  pub rate_no_draws : branch_rate_call (Given 1·0) rates 0·5 start 0 ≡ refuses rates (Parameter 0) start
+  pub rate_sigma_negative : branch_rate_call (Some minus_one) rates 0·5 start 9 ≡ refuses rates (Parameter 0) start
+  pub rate_one_rate : branch_rate_call (Some 1·0) (3·0 ∷ []) 0·5 start 9 ≡ refuses (3·0 ∷ []) (Parameter 0) start
+  pub rate_tuning : branch_rate_call (Some 1·0) rates 2·0 start 9 ≡ refuses rates (Parameter 0) start
+  pub rate_no_draws : branch_rate_call (Some 1·0) rates 0·5 start 0 ≡ refuses rates (Parameter 0) start
   -- 6: the index takes the one draw, or both
-  pub rate_spent : branch_rate_call (Given 1·0) rates 0·5 start 1 ≡ refuses rates (Allowance 1) start
-  pub rate_again_spent : branch_rate_call (Given 1·0) rates 0·5 again 2 ≡ refuses rates (Allowance 2) again
-  pub rate_index_spent : branch_rate_call (Given 1·0) rates 0·5 again 1 ≡ refuses rates (Allowance 1) again
+  pub rate_spent : branch_rate_call (Some 1·0) rates 0·5 start 1 ≡ refuses rates (Allowance 1) start
+  pub rate_again_spent : branch_rate_call (Some 1·0) rates 0·5 again 2 ≡ refuses rates (Allowance 2) again
+  pub rate_index_spent : branch_rate_call (Some 1·0) rates 0·5 again 1 ≡ refuses rates (Allowance 1) again
 
 -- each by computation
 pub clock-rows : ClockRows

@@ -2,7 +2,7 @@
 // where there is no clock. No public function has a `requires`. Assumes nothing.
 #![tactic(auto)]
 
-ghost use Rattle.std.specs.Prelude.{◌≡◌, ◌&&◌, ◌<◌, length, set};
+ghost use Rattle.std.specs.Prelude.{◌≡◌, ◌&&◌};
 ghost use Rattle.answer.specs.declared.Proposal.TheVariants as Proposals;
 ghost use Rattle.calls.specs.Change.{proposed, value_call};
 ghost use Rattle.calls.specs.Draws.{tuned};
@@ -12,8 +12,7 @@ ghost use Rattle.clocks.specs.Given.{rates_after};
 
 use answer::{Proposal, Ratio, Refusal};
 use random::{Random, Supply};
-use real::Optional;
-use scales::{OptionalScaled, Scaled};
+use scales::Scaled;
 
 // An answer and the generator after the call, the rates being lent.
 #[derive(Clone, Copy)]
@@ -23,76 +22,69 @@ pub struct RatesScaled {
 }
 
 // A value times a factor, finite and positive.
-fn positive_scale(limits: bool, value: f64, tuning: f64, random: Random, allowance: u32) -> Scaled
+#[tactic(auto, using(crate::proofs::ClockLaws::positive_laws))]
+fn positive_scale(
+    limits: bool,
+    value: f64,
+    tuning: f64,
+    random: Random,
+    allowance: u32,
+) -> Scaled<f64>
     ensures { proposed result.proposal result.random result.value ≡ value_call limits (positively value tuning) value random allowance }
 {
-    if scales::is_fine(limits, allowance) {
-        let u = Supply {
-            random,
-            left: allowance,
-        }
-        .uniform();
-        let after = u.supply;
-        if u.ok {
-            let f = calls::scaler(tuning, u.value);
-            let x = value * f;
-            return scales::settle(real::is_positive(x), x, value, f, allowance, after);
-        }
-        return scales::refuse(Refusal::Allowance(allowance), value, random);
+    if !scales::is_fine(limits, allowance) {
+        return scales::refuse(Refusal::Parameter(0), value, random);
     }
-    scales::refuse(Refusal::Parameter(0), value, random)
+    let supply = Supply {
+        random,
+        left: allowance,
+    };
+    let Some((u, after)) = supply.uniform() else {
+        return scales::refuse(Refusal::Allowance(allowance), value, random);
+    };
+    let f = calls::scaler(tuning, u);
+    let x = value * f;
+    scales::settle(real::is_positive(x), x, value, f, allowance, after)
 }
 
 // Whether the tuning and the clock are within their limits.
 fn is_timed(sigma: f64, rates: &[f64], tuning: f64) -> bool
     ensures { result ≡ (tuned tuning && clock_fits sigma rates.now) }
 {
-    if calls::is_tuned(tuning) {
-        return rates::is_clock(sigma, rates);
-    }
-    false
+    calls::is_tuned(tuning) && rates::is_clock(sigma, rates)
 }
 
 // ClockSigmaScale, of the sigma of a clock with these rates; without a clock nothing is drawn, and the rates are not looked at.
+#[tactic(auto, using(crate::proofs::ClockLaws::sigma_laws))]
 pub fn clock_sigma_scale(
-    sigma: Optional,
+    sigma: Option<f64>,
     rates: &[f64],
     tuning: f64,
     random: Random,
     allowance: u32,
-) -> OptionalScaled
+) -> Scaled<Option<f64>>
     ensures { proposed result.proposal result.random result.value ≡ clock_sigma_call sigma rates.now tuning random allowance }
 {
     match sigma {
-        Optional::Missing => {
-            let fine = scales::is_fine(calls::is_tuned(tuning), allowance);
-            return OptionalScaled {
-                proposal: scales::undrawn(fine),
-                value: Optional::Missing,
-                random,
-            };
-        }
-        Optional::Given(x) => {
-            let r = positive_scale(is_timed(x, rates, tuning), x, tuning, random, allowance);
-            let proposal = r.proposal;
-            let after = r.random;
-            return OptionalScaled {
-                proposal,
-                value: Optional::Given(r.value),
-                random: after,
-            };
+        None => Scaled {
+            proposal: scales::undrawn(scales::is_fine(calls::is_tuned(tuning), allowance)),
+            value: sigma,
+            random,
+        },
+        Some(x) => {
+            let limits = is_timed(x, rates, tuning);
+            let scaled = positive_scale(limits, x, tuning, random, allowance);
+            Scaled {
+                proposal: scaled.proposal,
+                value: Some(scaled.value),
+                random: scaled.random,
+            }
         }
     }
 }
 
-fn rates_scaled(proposal: Proposal, after: Supply) -> RatesScaled
-    ensures { result ≡ rates_after proposal after.random }
-{
-    let random = after.random;
-    RatesScaled { proposal, random }
-}
-
-fn refuse_rates(why: Refusal, random: Random) -> RatesScaled
+// The answer of a call that is turned back: the generator as it came.
+fn refuse(why: Refusal, random: Random) -> RatesScaled
     ensures { result ≡ rates_after (Proposals.Refused why) random }
 {
     RatesScaled {
@@ -101,14 +93,8 @@ fn refuse_rates(why: Refusal, random: Random) -> RatesScaled
     }
 }
 
-fn put_rate(rates: &mut [f64], i: usize, x: f64)
-    requires { i < length rates.old }
-    ensures { rates.new ≡ set rates.old i x }
-{
-    rates[i] = x;
-}
-
 // A rate by its index times a factor, finite and positive.
+#[tactic(auto, using(crate::proofs::ClockLaws::rate_scale_laws))]
 fn rate_scale(
     limits: bool,
     rates: &mut [f64],
@@ -118,37 +104,39 @@ fn rate_scale(
 ) -> RatesScaled
     ensures { proposed result.proposal result.random rates.new ≡ value_call limits (branch_rate_of rates.old tuning) rates.old random allowance }
 {
-    if scales::is_fine(limits, allowance) {
-        let d = Supply {
-            random,
-            left: allowance,
-        }
-        .below(rates.len());
-        let between = d.supply;
-        if d.ok {
-            let u = between.uniform();
-            let after = u.supply;
-            if u.ok {
-                let f = calls::scaler(tuning, u.value);
-                let i = d.value;
-                let x = rates[i] * f;
-                let draws = allowance - after.left;
-                if real::is_positive(x) {
-                    put_rate(rates, i, x);
-                    return rates_scaled(Proposal::Scaled(draws, Ratio::Power(f, -1)), after);
-                }
-                return rates_scaled(Proposal::Declined(draws), after);
-            }
-            return refuse_rates(Refusal::Allowance(allowance), random);
-        }
-        return refuse_rates(Refusal::Allowance(allowance), random);
+    if !scales::is_fine(limits, allowance) {
+        return refuse(Refusal::Parameter(0), random);
     }
-    refuse_rates(Refusal::Parameter(0), random)
+    let supply = Supply {
+        random,
+        left: allowance,
+    };
+    let Some((i, between)) = supply.below(rates.len()) else {
+        return refuse(Refusal::Allowance(allowance), random);
+    };
+    let Some((u, after)) = between.uniform() else {
+        return refuse(Refusal::Allowance(allowance), random);
+    };
+    let f = calls::scaler(tuning, u);
+    let x = rates[i] * f;
+    let draws = allowance - after.left;
+    if !real::is_positive(x) {
+        return RatesScaled {
+            proposal: Proposal::Declined(draws),
+            random: after.random,
+        };
+    }
+    rates[i] = x;
+    RatesScaled {
+        proposal: Proposal::Scaled(draws, Ratio::Power(f, -1)),
+        random: after.random,
+    }
 }
 
 // BranchRateScale, of one of a clock's rates; without a clock nothing is drawn, and the rates are not looked at.
+#[tactic(auto, using(crate::proofs::ClockLaws::branch_laws))]
 pub fn branch_rate_scale(
-    sigma: Optional,
+    sigma: Option<f64>,
     rates: &mut [f64],
     tuning: f64,
     random: Random,
@@ -157,16 +145,13 @@ pub fn branch_rate_scale(
     ensures { proposed result.proposal result.random rates.new ≡ branch_rate_call sigma rates.old tuning random allowance }
 {
     match sigma {
-        Optional::Missing => {
-            let fine = scales::is_fine(calls::is_tuned(tuning), allowance);
-            return RatesScaled {
-                proposal: scales::undrawn(fine),
-                random,
-            };
-        }
-        Optional::Given(x) => {
+        None => RatesScaled {
+            proposal: scales::undrawn(scales::is_fine(calls::is_tuned(tuning), allowance)),
+            random,
+        },
+        Some(x) => {
             let limits = is_timed(x, rates, tuning);
-            return rate_scale(limits, rates, tuning, random, allowance);
+            rate_scale(limits, rates, tuning, random, allowance)
         }
     }
 }

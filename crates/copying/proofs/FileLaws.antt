@@ -6,32 +6,32 @@ use Prim.Native.Nat.{ℕ, ◌+◌, ◌*◌, ◌/◌, ◌≤◌, ◌<◌}
 use native.Mathlib.Omega.{arith}
 use borrow.Author.Tests.{lt-ltb, le-ltb}
 use lib.ListN.{length, take}
-use lib.Seq.{length-take-le, take_at}
+use lib.Seq.{take_at}
 use lib.Ieee.{Float}
 use Rattle.answer.specs.declared.Refusal.TheVariants.{Size, Line}
 use Rattle.tree.specs.Tree.{nodes_of}
 use Rattle.tree.specs.New.{new_tree}
 use Rattle.accepted.specs.NewLaws.{new-large}
 use Rattle.statefile.specs.declared.Head.{Head}
-use Rattle.statefile.specs.declared.FileRead.{FileRead}
-use Rattle.statefile.specs.declared.FileRead.TheVariants as FileRead
 use Rattle.statefile.specs.StateFile.{faulty, nodes_for, state_file}
 use Rattle.statefile.specs.Given.{Held, file_given}
 use Rattle.report.specs.Report.{refused_text, Delivery, delivered}
 use Rattle.copying.specs.Copying.{tree_copy, read_copy, file_copy}
+use Rattle.std.specs.Prelude.{Result, Ok, Err}
+use Rattle.statefile.specs.declared.WrongLine.{WrongLine}
 
 half : (k n : ℕ) → k ≡ 2 * n → k / 2 ≡ n
 half k n e = omega arith
 
 -- r is what was read of the file s into the slices ps and hs, which came as ps₀ and hs₀; d is what was delivered
-module _ (s ps₀ ps : List ℕ) (hs₀ hs : List Float) (r : FileRead) (e : file_given s ps₀ hs₀ r ps hs) (out : List ℕ) (d : Delivery) where
-  pub file-wrong : (k : ℕ) → r ≡ FileRead.Wrong k → d ≡ delivered out (refused_text (Line k)) → d ≡ delivered out (read_copy (state_file s))
+module _ (s ps₀ ps : List ℕ) (hs₀ hs : List Float) (r : Result Head WrongLine) (e : file_given s ps₀ hs₀ r ps hs) (out : List ℕ) (d : Delivery) where
+  pub file-wrong : (w : WrongLine) → r ≡ Err w → d ≡ delivered out (refused_text (Line w.0)) → d ≡ delivered out (read_copy (state_file s))
   unfolding read_copy
-  file-wrong k y h = let f : state_file s ≡ faulty k = subst (λ (x : FileRead). file_given s ps₀ hs₀ x ps hs) y e in rw f h
+  file-wrong w y h = let f : state_file s ≡ faulty w.0 = subst (λ (x : Result Head WrongLine). file_given s ps₀ hs₀ x ps hs) y e in rw f h
 
-  module _ (head : Head) (y : r ≡ FileRead.Read head) (n : ℕ) (en : n ≡ nodes_for head.tips) where
+  module _ (head : Head) (y : r ≡ Ok head) (n : ℕ) (en : n ≡ nodes_for head.tips) where
     held : Held s head ps₀ ps hs₀ hs
-    held = subst (λ (x : FileRead). file_given s ps₀ hs₀ x ps hs) y e
+    held = subst (λ (x : Result Head WrongLine). file_given s ps₀ hs₀ x ps hs) y e
 
     pub file-large : 4095 < n → d ≡ delivered out (refused_text (Size n)) → d ≡ delivered out (read_copy (state_file s))
     unfolding read_copy tree_copy
@@ -52,15 +52,6 @@ module _ (s ps₀ ps : List ℕ) (hs₀ hs : List Float) (r : FileRead) (e : fil
         let p : take (n + n) ps ≡ t.pairs = ap (take (n + n)) (held.shown.pairs_held a) ∙ take_at t.pairs _ (n + n) (held.shown.places ∙ sym m) in
         let q : take n hs ≡ t.heights = ap (take n) (held.shown.heights_held b) ∙ take_at t.heights _ n (held.shown.nodes ∙ sym en) in
         rw held.is (h ∙ (λ i. delivered out (tree_copy (new_tree (p i) (q i)))))
-
-pub ruleset read_laws = (file-wrong, file-large, file-tree)
-
--- the parts of the room that a tree of n nodes takes
-pub parts-each : (n : ℕ) (ps qs : List ℕ) → n + n ≤ length ps → n ≤ length qs → length (take n qs) ≡ nodes_of (take (n + n) ps)
-parts-each n ps qs f g =
-    let a : length (take (n + n) ps) ≡ n + n = length-take-le (n + n) ps f in
-    let b : length (take n qs) ≡ n = length-take-le n qs g in
-    omega arith
 
 -- ---- the whole file
 

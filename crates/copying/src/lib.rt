@@ -12,107 +12,81 @@ ghost use Rattle.copying.specs.Copying.{copy_text, tree_copy, read_copy, file_co
 ghost use Rattle.copying.specs.Given.{handed};
 
 use answer::Refusal;
-use newick::Copied;
-use statefile::FileRead;
-use tree::Rooted;
+use newick::CopyError;
+use tree::Tree;
+
+// The nodes of the largest tree.
+const MOST_NODES: usize = 4095;
 
 // How long the copy is that the writer has put into the slice: 0 where the slice is too short for it, which is the writer's refusal 10. The text of another
 // refusal is put there, as nothing was written.
-fn conclude(copied: Copied, out: &mut [u8]) -> usize
+#[tactic(auto, using(crate::proofs::TreeLaws::told_laws))]
+fn conclude(copied: Result<usize, CopyError>, out: &mut [u8]) -> usize
     ensures { delivery result out.new ≡ handed copied out.old }
 {
     match copied {
-        Copied::Bytes(count) => {
-            return count;
-        }
-        Copied::Refused(why) => {
-            return report::put_refusal(out, why);
-        }
-        Copied::Room => {
-            return 0;
-        }
+        Ok(count) => count,
+        Err(CopyError::Refused(why)) => report::put_refusal(out, why),
+        Err(CopyError::Room) => 0,
     }
 }
 
 // The copy of a tree that was accepted.
-fn copy_accepted(
-    pairs: &[u16],
-    parents: &[u16],
-    heights: &[f64],
-    root: usize,
-    out: &mut [u8],
-) -> usize
-    requires { Accepted (tree_of pairs.now parents.now heights.now root) }
-    ensures { delivery result out.new ≡ delivered out.old (copy_text (tree_of pairs.now parents.now heights.now root)) }
+fn copy_accepted(tree: &Tree<'_>, out: &mut [u8]) -> usize
+    requires { Accepted tree.now }
+    ensures { delivery result out.new ≡ delivered out.old (copy_text tree.now) }
 {
-    let copied = newick_write::write(pairs, parents, heights, root, &mut *out);
+    let copied = newick_write::write(tree, out);
     conclude(copied, out)
 }
 
 // The copy of the tree that the pairs and heights make, or why they make none; the parents are found.
+#[tactic(auto, using(crate::proofs::TreeLaws::tree_laws))]
 fn copy_tree(pairs: &[u16], heights: &[f64], parents: &mut [u16], out: &mut [u8]) -> usize
     requires { length parents.old ≡ nodes_of pairs.now }
     ensures { delivery result out.new ≡ delivered out.old (tree_copy (new_tree pairs.now heights.now)) }
 {
-    let rooted = tree::new(pairs, heights, &mut *parents);
-    match rooted {
-        Rooted::Refused(why) => {
-            return report::put_refusal(out, why);
+    match tree::new(pairs, heights, parents) {
+        Ok(root) => {
+            let tree = Tree {
+                pairs,
+                parents: &*parents,
+                heights,
+                root,
+            };
+            copy_accepted(&tree, out)
         }
-        Rooted::Root(root) => {
-            return copy_accepted(pairs, parents, heights, root, out);
-        }
+        Err(why) => report::put_refusal(out, why),
     }
-}
-
-// Room for the pairs of the largest tree, and for one number of each of its nodes.
-fn pairs_room() -> [u16; 8190]
-    ensures { length result ≡ 8190 }
-{
-    [0u16; 8190]
-}
-
-fn parents_room() -> [u16; 4095]
-    ensures { length result ≡ 4095 }
-{
-    [0u16; 4095]
-}
-
-fn heights_room() -> [f64; 4095]
-    ensures { length result ≡ 4095 }
-{
-    [0.0; 4095]
 }
 
 // The copy of a file that is not too long.
 fn copy_file(file: &[u8], out: &mut [u8]) -> usize
     ensures { delivery result out.new ≡ delivered out.old (read_copy (state_file file.now)) }
 {
-    let mut pairs = pairs_room();
-    let mut parents = parents_room();
-    let mut heights = heights_room();
-    let read = statefile::read_state(file, &mut pairs, &mut heights);
-    match read {
-        FileRead::Wrong(line) => {
-            return report::put_refusal(out, Refusal::Line(line));
-        }
-        FileRead::Read(head) => {
+    let mut pairs = [0; 2 * MOST_NODES];
+    let mut parents = [0; MOST_NODES];
+    let mut heights = [0.0; MOST_NODES];
+    match statefile::read_state(file, &mut pairs, &mut heights) {
+        Ok(head) => {
             let n = statefile::node_count(head.tips);
-            if 4095 < n {
+            if MOST_NODES < n {
                 return report::put_refusal(out, Refusal::Size(n));
             }
-            let m = n + n;
-            return copy_tree(&pairs[..m], &heights[..n], &mut parents[..n], out);
+            copy_tree(&pairs[..n + n], &heights[..n], &mut parents[..n], out)
         }
+        Err(wrong) => report::put_refusal(out, Refusal::Line(wrong.0)),
     }
 }
 
 // The copy of a state file of at most so many bytes, at the start of `out`, and how long it is; 0, with nothing written, where `out` is too short.
+#[tactic(auto, using(crate::proofs::FileLaws::file_laws))]
 pub fn copy(file: &[u8], limit: usize, out: &mut [u8]) -> usize
     ensures { delivery result out.new ≡ delivered out.old (file_copy limit file.now) }
 {
     if limit < file.len() {
-        return report::put_refusal(out, Refusal::Line(0));
+        report::put_refusal(out, Refusal::Line(0))
+    } else {
+        copy_file(file, out)
     }
-    copy_file(file, out)
 }

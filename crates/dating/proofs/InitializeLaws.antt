@@ -1,5 +1,4 @@
--- The ways through the new heights: the middle of a tip's ages, the oldest tip and the factor (`middle_laws`, `oldest_laws`), a node's new height
--- (`initial_laws`), the lowest that is not finite (`lowest_laws`), and the writing of all (`set_laws`). Assumes nothing.
+-- The ways through the new heights: the lowest that is not finite (`lowest_laws`), and the writing of all (`set_laws`). Assumes nothing.
 use mathlib.Core.Path.{◌≡◌, refl, sym, ap, ◌∙◌}
 use mathlib.Core.Bool.{Bool, true, false}
 use mathlib.Core.List.{List, []}
@@ -8,66 +7,14 @@ use native.Mathlib.Omega.{arith}
 use native.Mathlib.Numerals.{add-one}
 use lib.ListN.{length, get_or, set}
 use lib.Seq.{get_or-set_other}
-use lib.Ieee.{Float, nan, binary64, of_bits, add, sub, mul, div}
+use lib.Ieee.{Float, nan}
 use lib.Ieee.Scale.{finite}
-use Rattle.real.specs.Real as Real
-use Rattle.real.specs.Real.{max_of}
-use Rattle.tree.specs.Tree.{Tree, inner, height}
+use Rattle.tree.specs.Tree.{Tree, height}
 use Rattle.tree.specs.Given.{kin_in}
 use Rattle.calls.specs.Draws.{least}
 use Rattle.calls.specs.LeastLaws.{least-none, least_step, least-stop}
-use Rattle.ages.specs.declared.TipAge.{TipAge}
-use Rattle.ages.specs.Ages.{age_of}
-use Rattle.dating.specs.Initialize.{midpoint, oldest, stretch, Start, initial_height, overflows_at, initial_to}
+use Rattle.dating.specs.Initialize.{Start, initial_height, overflows_at, initial_to}
 use Rattle.dating.specs.Given.{start_with}
-
--- ---- the middle of a tip's ages, and the factor
-
-pub middle-is : (a : TipAge)
-    → add binary64 a.minimum (div binary64 (sub binary64 a.maximum a.minimum) (of_bits binary64 0x4000_0000_0000_0000)) ≡ midpoint a
-unfolding midpoint
-middle-is a = refl
-
-pub stretch-is : (origin old top : Float)
-    → div binary64 (mul binary64 (of_bits binary64 0x3fe9_9999_9999_999a) (sub binary64 origin old)) top ≡ stretch origin old top
-unfolding stretch
-stretch-is origin old top = refl
-
-pub ruleset middle_laws = (middle-is, stretch-is)
-
--- ---- the oldest tip
-
-module _ (minima maxima : List Float) where
-  pub oldest-start : Real.zero ≡ oldest minima maxima 0
-  unfolding oldest
-  oldest-start = refl
-
-  -- old is the oldest of the first k, and a the ages of tip k
-  module _ (k : ℕ) (old : Float) (i : old ≡ oldest minima maxima k) where
-    pub oldest-step : (a : TipAge) → a ≡ age_of minima maxima k → (m : Float) → m ≡ midpoint a → (r : Float) → r ≡ max_of old m
-        → r ≡ oldest minima maxima (k + 1)
-    unfolding oldest
-    oldest-step a ea m em r er = rw (add-one, er, em, ea, i)
-
-    pub oldest-end : (tips : ℕ) → k ≤ tips → tips ≤ k → old ≡ oldest minima maxima tips
-    oldest-end tips l u = let z : k ≡ tips = omega arith in i ∙ ap (oldest minima maxima) z
-
-pub ruleset oldest_laws = (oldest-start, oldest-step, oldest-end)
-
--- ---- a node's new height
-
--- b is whether node k is internal
-module _ (n : ℕ) (minima maxima : List Float) (old factor : Float) (k : ℕ) (h : Float) (b : Bool) (eb : b ≡ inner n k) where
-  pub initial-inner : b ≡ true → add binary64 old (mul binary64 h factor) ≡ initial_height (start_with n minima maxima old factor) k h
-  unfolding initial_height
-  initial-inner y = rw (← eb, y)
-
-  pub initial-tip : b ≡ false → (a : TipAge) → a ≡ age_of minima maxima k → (r : Float) → r ≡ midpoint a
-      → r ≡ initial_height (start_with n minima maxima old factor) k h
-  unfolding initial_height
-  initial-tip y a ea r er = rw (← eb, y, er, ea)
-
-pub ruleset initial_laws = (initial-inner, initial-tip)
 
 -- ---- the lowest that is not finite
 

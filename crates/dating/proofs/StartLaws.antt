@@ -1,49 +1,24 @@
--- The ways through the limits of `initialize` (`limit_laws`), through what it does past its checks (`start_laws`), and through the call
--- (`initialize_laws`). Assumes nothing.
+-- The ways through what `initialize` does past its checks (`start_laws`), and through the call (`initialize_laws`). Assumes nothing.
 use mathlib.Core.Path.{◌≡◌, sym, ◌∙◌}
-use mathlib.Core.Bool.{Bool, true, false}
+use mathlib.Core.Bool.{Bool}
 use mathlib.Core.List.{List, []}
 use Prim.Native.Nat.{ℕ, ◌≤◌, ◌<◌}
 use lib.ListN.{length, get_or}
-use lib.Ieee.{Float, nan, lt}
+use lib.Ieee.{Float, nan}
 use borrow.Author.Tests.{lt-ltb, le-ltb}
 use Rattle.answer.specs.declared.Refusal.{Refusal}
 use Rattle.answer.specs.declared.Refusal.TheVariants.{NotFinite}
-use Rattle.real.specs.Real as Real
-use Rattle.tree.specs.declared.Verdict.{Verdict}
-use Rattle.tree.specs.declared.Verdict.TheVariants as Verdicts
 use Rattle.tree.specs.Tree.{Tree, nodes_of, tips_of, height}
 use Rattle.tree.specs.Given.{tree_of, kin_in}
 use Rattle.accepted.specs.ValidatedLaws.{fine-valid}
 use Rattle.calls.specs.Draws.{least}
 use Rattle.process.specs.declared.FossilizedBirthDeath.{FossilizedBirthDeath}
-use Rattle.process.specs.Process.{process_finite}
 use Rattle.ages.specs.Ages.{table_checked}
 use Rattle.dating.specs.Initialize.{oldest, stretch, start_of, overflows_at, initial_to, start_fits, all_finite, initialized, initialize_call}
 use Rattle.dating.specs.Given.{start_with, start_in, start_call}
 use Rattle.ages.specs.CheckedLaws.{passed}
 use Rattle.dating.proofs.InitializeLaws.{initial-whole}
-
--- ---- the limits
-
--- f is whether the process is finite
-module _ (p : FossilizedBirthDeath) (minima maxima : List Float) (pairs : List ℕ) (hs : List Float) (root : ℕ) (f : Bool) (ef : f ≡ process_finite p) where
-  pub limit-process : f ≡ false → false ≡ start_fits minima maxima p (tree_of pairs [] hs root)
-  unfolding start_fits
-  limit-process h = rw (← ef, h)
-
-  -- top is the root's height
-  module _ (h : f ≡ true) (top : Float) (et : top ≡ get_or hs root nan) where
-    pub limit-root : lt Real.zero top ≡ false → false ≡ start_fits minima maxima p (tree_of pairs [] hs root)
-    unfolding start_fits height
-    limit-root l = rw (← ef, h, ← et, l)
-
-    pub limit-origin : lt Real.zero top ≡ true → (m : ℕ) → m ≡ tips_of (nodes_of pairs) → (old : Float) → old ≡ oldest minima maxima m
-        → lt old p.origin ≡ start_fits minima maxima p (tree_of pairs [] hs root)
-    unfolding start_fits height
-    limit-origin l m em old eo = rw (← ef, h, ← et, l, ← em, eo)
-
-pub ruleset limit_laws = (limit-process, limit-root, limit-origin)
+use Rattle.std.specs.Prelude.{Result, Ok, Err}
 
 -- ---- past the checks
 
@@ -54,12 +29,12 @@ module _ (hs minima maxima : List Float) (root : ℕ) (origin : Float) (m : ℕ)
   same = rw (ef, eo, em, et)
 
   pub start-not-finite : k < length hs
-      → initialized (Verdicts.Refused (NotFinite k)) hs ≡ start_call (start_in (length hs) minima maxima origin (get_or hs root nan)) (kin_in [] hs)
+      → initialized (Err (NotFinite k)) hs ≡ start_call (start_in (length hs) minima maxima origin (get_or hs root nan)) (kin_in [] hs)
   unfolding all_finite
   start-not-finite l = rw (same, ← ek, lt-ltb k (length hs) l)
 
   pub start-done : length hs ≤ k → (new : List Float) → new ≡ initial_to (start_with (length hs) minima maxima old factor) (kin_in [] hs) (length hs)
-      → initialized Verdicts.Fine new ≡ start_call (start_in (length hs) minima maxima origin (get_or hs root nan)) (kin_in [] hs)
+      → initialized (Ok tt) new ≡ start_call (start_in (length hs) minima maxima origin (get_or hs root nan)) (kin_in [] hs)
   unfolding all_finite
   start-done l new e = rw (same, ← ek, le-ltb k (length hs) l, e)
 
@@ -69,7 +44,7 @@ pub ruleset start_laws = (start-not-finite, start-done)
 
 -- r is what the checks say
 module _ (p : FossilizedBirthDeath) (minima maxima : List Float) (pairs parents : List ℕ) (hs : List Float) (root : ℕ) (limits : Bool)
-    (el : limits ≡ start_fits minima maxima p (tree_of pairs [] hs root)) (r : Verdict)
+    (el : limits ≡ start_fits minima maxima p (tree_of pairs [] hs root)) (r : Result (Unit {0}) Refusal)
     (u : r ≡ table_checked p minima maxima (tree_of pairs parents hs root) limits) where
   abbrev t : Tree
   t = tree_of pairs parents hs root
@@ -79,11 +54,11 @@ module _ (p : FossilizedBirthDeath) (minima maxima : List Float) (pairs parents 
   unfolding start_fits height
   fits = el
 
-  pub initialize-refused : (why : Refusal) → r ≡ Verdicts.Refused why → initialized (Verdicts.Refused why) hs ≡ initialize_call minima maxima p t
+  pub initialize-refused : (why : Refusal) → r ≡ Err why → initialized (Err why) hs ≡ initialize_call minima maxima p t
   unfolding initialize_call
   initialize-refused why y = rw (← fits, ← u, y)
 
-  pub initialize-done : r ≡ Verdicts.Fine → (w : Verdict) (new : List Float)
+  pub initialize-done : r ≡ (Ok tt) → (w : Result (Unit {0}) Refusal) (new : List Float)
       → initialized w new ≡ start_call (start_in (length hs) minima maxima p.origin (get_or hs root nan)) (kin_in [] hs) → initialized w new ≡ initialize_call minima maxima p t
   unfolding initialize_call all_finite height
   initialize-done y w new e =

@@ -1,5 +1,4 @@
--- The ways through TipAge: the interval that is left to a tip (`interval_laws`), a height for the tip (`age_tip_laws`), the turn (`tip_age_laws`), the
--- limits (`limited_laws`), and the call (`propose_laws`). Assumes nothing.
+-- The ways through TipAge: a height for the tip (`age_tip_laws`), the turn (`tip_age_laws`), and the call (`propose_laws`). Assumes nothing.
 use mathlib.Core.Path.{◌≡◌}
 use mathlib.Core.Bool.{Bool, true, false, ◌&&◌}
 use mathlib.Core.List.{List}
@@ -10,21 +9,14 @@ use Rattle.answer.specs.declared.Refusal.{Refusal}
 use Rattle.answer.specs.declared.Ratio.TheVariants.{Even}
 use Rattle.random.specs.declared.Random.{Random}
 use Rattle.random.specs.declared.Supply.{Supply}
-use Rattle.random.specs.declared.DrawnNumber.{DrawnNumber}
-use Rattle.random.specs.declared.DrawnReal.{DrawnReal}
-use Rattle.random.specs.Draw.{below, uniform, pick, run, drawn_number, drawn_real, supply_of, allowed}
+use Rattle.random.specs.Draw.{below, uniform, pick, run, drawn, supply_of, allowed}
 use Rattle.random.proofs.DrawLaws.{draw-got, draw-spent}
-use Rattle.random.specs.SupplyLaws.{number-got, number-spent}
-use Rattle.real.specs.Real.{min_of}
-use Rattle.tree.specs.declared.Verdict.{Verdict}
-use Rattle.tree.specs.declared.Verdict.TheVariants as Verdicts
+use Rattle.random.specs.SupplyLaws.{drawn-got, drawn-spent}
 use Rattle.tree.specs.Tree.{Tree, nodes_of, tips_of, parent, height}
 use Rattle.tree.specs.Given.{tree_of}
 use Rattle.edits.specs.Slots.{set_height}
 use Rattle.rules.specs.Rules.{ceiling, tip_age_declines, tip_moved}
 use Rattle.calls.specs.declared.Answered.{Answered}
-use Rattle.calls.specs.declared.Height.{Height}
-use Rattle.calls.specs.declared.Height.TheVariants as Heights
 use Rattle.calls.specs.declared.Turn.{Turn}
 use Rattle.calls.specs.declared.Turned.TheVariants as Turns
 use Rattle.calls.specs.Call.{Outcome, moved, called, leaves}
@@ -37,13 +29,7 @@ use Rattle.ages.specs.declared.TipAge.{TipAge}
 use Rattle.ages.specs.Ages.{age_of, table_checked}
 use Rattle.dating.specs.TipAge.{ageing, tip_age, ages_checked, tip_age_call}
 use Rattle.dating.specs.Given.{left_to}
-
--- ---- the interval
-
-pub interval-is : (a : TipAge) (above x : Float) → x ≡ min_of a.maximum above → record { minimum = a.minimum; maximum = x } ≡ left_to a above
-interval-is a above x e = rw e
-
-pub ruleset interval_laws = (interval-is)
+use Rattle.std.specs.Prelude.{Some, None, Result, Ok, Err}
 
 -- ---- a height for tip k
 
@@ -68,64 +54,48 @@ module _ (pairs parents : List ℕ) (hs : List Float) (root k : ℕ) (a : TipAge
   unfolding ageing turn_of run tip_age_declines
   age-declined h r er = rw (er, ← greatest, ← least, h)
 
-  -- u is the uniform
-  module _ (h : le l.maximum l.minimum ≡ false) (u : DrawnReal) (e : u ≡ drawn_real between (run uniform between)) where
-    pub age_spent : u.ok ≡ false → after_on Turns.Spent s here ≡ turn_of here s (run (ageing here k a) between)
+  module _ (h : le l.maximum l.minimum ≡ false) where
+    pub age_spent : None ≡ drawn (run uniform between) → after_on Turns.Spent s here ≡ turn_of here s (run (ageing here k a) between)
     unfolding ageing turn_of tip_age_declines
-    age_spent f = rw (← greatest, ← least, h, height-spent k l.minimum l.maximum make between u e f)
+    age_spent e = rw (← greatest, ← least, h, height-spent k l.minimum l.maximum make between e)
 
-    -- y is the height
-    module _ (f : u.ok ≡ true) (y : Height) (ey : y ≡ height_of l.minimum l.maximum u.value) where
-      pub age-outside : y ≡ Heights.Outside → after_on (Turns.Outside k) u.supply here ≡ turn_of here s (run (ageing here k a) between)
+    -- u is the uniform, and last the supply after it
+    module _ (u : Float) (last : Supply) (e : Some (u, last) ≡ drawn (run uniform between)) where
+      pub age-outside : None ≡ height_of l.minimum l.maximum u → after_on (Turns.Outside k) last here ≡ turn_of here s (run (ageing here k a) between)
       unfolding ageing turn_of tip_age_declines
-      age-outside q = rw (← greatest, ← least, h, height-outside k l.minimum l.maximum make between u e f y ey q)
+      age-outside q = rw (← greatest, ← least, h, height-outside k l.minimum l.maximum make between u last e q)
 
-      pub age-moved : (x : Float) → y ≡ Heights.At x → (new : List Float) → new ≡ set hs k x
-          → after_on (Turns.Moved root Even) u.supply (tree_of pairs parents new root) ≡ turn_of here s (run (ageing here k a) between)
+      pub age-moved : (x : Float) → Some x ≡ height_of l.minimum l.maximum u → (new : List Float) → new ≡ set hs k x
+          → after_on (Turns.Moved root Even) last (tree_of pairs parents new root) ≡ turn_of here s (run (ageing here k a) between)
       unfolding ageing turn_of tip_age_declines set_height
-      age-moved x q new w = rw (← greatest, ← least, h, height-inside k l.minimum l.maximum make between u e f y ey x q, w)
+      age-moved x q new w = rw (← greatest, ← least, h, height-inside k l.minimum l.maximum make between u last e x q, w)
 
 pub ruleset age_tip_laws = (age-declined, age_spent, age-outside, age-moved)
 
 -- ---- the turn
 
--- d is the tip that was drawn of m
-module _ (minima maxima : List Float) (pairs parents : List ℕ) (hs : List Float) (root : ℕ) (s : Supply) (m : ℕ) (em : m ≡ tips_of (nodes_of pairs)) (d : DrawnNumber)
-    (e : d ≡ drawn_number s (pick (below m) s)) where
+-- of m tips
+module _ (minima maxima : List Float) (pairs parents : List ℕ) (hs : List Float) (root : ℕ) (s : Supply) (m : ℕ) (em : m ≡ tips_of (nodes_of pairs)) where
   abbrev t : Tree
   t = tree_of pairs parents hs root
 
-  -- from the tips of the definition
-  drawn : d ≡ drawn_number s (pick (below (tips_of (nodes_of pairs))) s)
-  drawn = rw (← em) e
-
-  pub turn-spent : d.ok ≡ false → after_on Turns.Spent s t ≡ turn_of t s (run (tip_age minima maxima t) s)
+  pub turn-spent : None ≡ drawn (pick (below m) s) → after_on Turns.Spent s t ≡ turn_of t s (run (tip_age minima maxima t) s)
   unfolding tip_age turn_of
-  turn-spent f = rw (draw-spent _ _ s (number-spent s d _ drawn f))
+  turn-spent e = rw (draw-spent _ _ s (drawn-spent (pick (below (tips_of (nodes_of pairs))) s) (rw (← em) e)))
 
-  pub turn-aged : d.ok ≡ true → (a : TipAge) → a ≡ age_of minima maxima d.value → (r : Turn) (new : List Float)
-      → ((any : List ℕ) → after r any parents new ≡ turn_of (tree_of any parents hs root) s (run (ageing (tree_of any parents hs root) d.value a) d.supply))
+  pub turn-aged : (k : ℕ) (u : Supply) → Some (k, u) ≡ drawn (pick (below m) s) → (a : TipAge) → a ≡ age_of minima maxima k → (r : Turn) (new : List Float)
+      → ((any : List ℕ) → after r any parents new ≡ turn_of (tree_of any parents hs root) s (run (ageing (tree_of any parents hs root) k a) u))
       → after r pairs parents new ≡ turn_of t s (run (tip_age minima maxima t) s)
   unfolding tip_age
-  turn-aged f a ea r new er = rw (er pairs, ea, draw-got _ _ s d.value d.supply (number-got s d _ drawn f))
+  turn-aged k u e a ea r new er = rw (er pairs, ea, draw-got _ _ s k u (drawn-got (pick (below (tips_of (nodes_of pairs))) s) k u (rw (← em) e)))
 
 pub ruleset tip_age_laws = (turn-spent, turn-aged)
 
--- ---- the limits and the call
-
--- f is whether the process is finite
-module _ (p : FossilizedBirthDeath) (allowance : ℕ) (f : Bool) (ef : f ≡ process_finite p) where
-  pub limited-process : f ≡ false → f ≡ (process_finite p && allowed allowance)
-  limited-process h = rw (← ef, h)
-
-  pub limited-allowance : f ≡ true → (b : Bool) → b ≡ allowed allowance → b ≡ (process_finite p && allowed allowance)
-  limited-allowance h b eb = rw (← ef, h, eb)
-
-pub ruleset limited_laws = (limited-process, limited-allowance)
+-- ---- the call
 
 -- v is what the checks say
 module _ (p : FossilizedBirthDeath) (minima maxima : List Float) (pairs parents : List ℕ) (hs : List Float) (root : ℕ) (g : Random) (allowance : ℕ) (limits : Bool)
-    (el : limits ≡ (process_finite p && allowed allowance)) (v : Verdict)
+    (el : limits ≡ (process_finite p && allowed allowance)) (v : Result (Unit {0}) Refusal)
     (u : v ≡ table_checked p minima maxima (tree_of pairs parents hs root) limits) where
   abbrev tree : Tree
   tree = tree_of pairs parents hs root
@@ -135,11 +105,11 @@ module _ (p : FossilizedBirthDeath) (minima maxima : List Float) (pairs parents 
   unfolding ages_checked
   same = rw (← el) u
 
-  pub propose-refused : (why : Refusal) → v ≡ Verdicts.Refused why → (r : Answered) → r ≡ turned_back why g → called r.answer r.random pairs parents hs ≡ tip_age_call minima maxima p tree g allowance
+  pub propose-refused : (why : Refusal) → v ≡ Err why → (r : Answered) → r ≡ turned_back why g → called r.answer r.random pairs parents hs ≡ tip_age_call minima maxima p tree g allowance
   unfolding tip_age_call leaves
   propose-refused why y r er = rw (← same, y, er)
 
-  pub propose-done : v ≡ Verdicts.Fine → (turn : Turn) (new : List Float)
+  pub propose-done : v ≡ (Ok tt) → (turn : Turn) (new : List Float)
       → after turn pairs parents new ≡ turn_of tree (supply_of g allowance) (run (tip_age minima maxima tree) (supply_of g allowance))
       → (r : Answered) → r ≡ answered_of turn.turned turn.supply g allowance → called r.answer r.random pairs parents new ≡ tip_age_call minima maxima p tree g allowance
   unfolding tip_age_call

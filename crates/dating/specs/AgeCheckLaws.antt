@@ -1,14 +1,12 @@
 -- The checks of a call of TipAge. In order: parameters that are fine are within their limits (`within-fine`); what the checks pass (`ages-fine`); that they
 -- say the same of two allowances within the limits (`ages-same`); and that they refuse with 5 at most (`ages-few`). Assumes nothing.
-use Rattle.std.specs.Prelude.{◌≡◌, Bool, true, false, ◌&&◌, List, T, length, Float}
+use Rattle.std.specs.Prelude.{◌≡◌, Bool, true, false, ◌&&◌, List, T, length, Float, Result, Ok, Err}
 use Prim.Native.Nat.{ℕ, ◌<◌}
 use Rattle.std.proofs.Common.{arith}
 use Rattle.std.proofs.Math.Dec.{eqb}
 use borrow.Author.Tests.{eq-eqb}
 use Rattle.answer.specs.declared.Refusal.TheVariants.{Size, Parameter}
 use Rattle.random.specs.Draw.{allowed}
-use Rattle.tree.specs.declared.Verdict.{Verdict}
-use Rattle.tree.specs.declared.Verdict.TheVariants as Verdicts
 use Rattle.tree.specs.Tree.{Tree, nodes_of, tips_of}
 use Rattle.tree.specs.New.{Accepted, validated}
 use Rattle.tree.specs.LowestLaws.{fine-lowest}
@@ -22,9 +20,10 @@ use Rattle.process.specs.declared.FossilizedBirthDeath.{FossilizedBirthDeath}
 use Rattle.process.specs.Process.{process_finite}
 use Rattle.ages.specs.Ages.{at_fault, table_sized, lowest_fault, or_parameter}
 use Rattle.dating.specs.TipAge.{ages_checked}
+use Rattle.answer.specs.declared.Refusal.{Refusal}
 
 -- parameters that are fine are within their limits
-pub within-fine : (b : Bool) → or_parameter b ≡ Verdicts.Fine → T b
+pub within-fine : (b : Bool) → or_parameter b ≡ (Ok tt) → T b
 within-fine true e = tt
 within-fine false e = clash cc
 
@@ -34,7 +33,7 @@ module _ (minima maxima : List Float) (p : FossilizedBirthDeath) (t : Tree) wher
   -- on an accepted tree, with an age for each tip and no tip at fault, with finite fields and an allowance within its limits
   pub ages-fine : Accepted t → length minima ≡ tips_of (nodes_of t.pairs) → length maxima ≡ tips_of (nodes_of t.pairs)
       → ((k : ℕ) → k < tips_of (nodes_of t.pairs) → at_fault p minima maxima k ≡ false)
-      → process_finite p ≡ true → (a : ℕ) → allowed a ≡ true → ages_checked minima maxima p t a ≡ Verdicts.Fine
+      → process_finite p ≡ true → (a : ℕ) → allowed a ≡ true → ages_checked minima maxima p t a ≡ (Ok tt)
   unfolding ages_checked
   ages-fine v l u f h a k =
       rw (
@@ -60,12 +59,12 @@ module _ (minima maxima : List Float) (p : FossilizedBirthDeath) (t : Tree) wher
   unfolding ages_checked
   ages-few a =
       then-few 5 (table_sized n minima maxima) (and_then (validated t) (and_then table (limited (process_finite p) a)))
-      (either (AtMost 5) (eqb (length minima) (tips_of n) && eqb (length maxima) (tips_of n)) {x = Verdicts.Fine} {y = Verdicts.Refused (Size n)} tt (omega arith))
+      (either (AtMost 5) (eqb (length minima) (tips_of n) && eqb (length maxima) (tips_of n)) {x = (Ok tt)} {y = Err (Size n)} tt (omega arith))
       (then-few 5 (validated t) (and_then table (limited (process_finite p) a)) (few-more 4 5 (omega arith) (validated t) (validated-few t))
       (then-few 5 table (limited (process_finite p) a) (lowest-few 5 (at_fault p minima maxima) Parameter (λ k. omega arith) (tips_of n)) (limited-few (process_finite p) a)))
     where
       n : ℕ
       n = nodes_of t.pairs
 
-      table : Verdict
+      table : Result (Unit {0}) Refusal
       table = lowest_fault p minima maxima (tips_of n)

@@ -2,7 +2,7 @@
 -- (`age-ends`, `age-refused`); the draws made (`age-steps`, `age-within`); what a moved, a declined and a refused
 -- call come from (`age-admitted`, `age-declined`, `age-kept`, `age-outside`, `age-finite`); other allowances (`age-larger`, `age-draws`, `age-enough`); and that a call
 -- leaves an accepted tree (`age-accepted`, `age-stays`). Assumes nothing.
-use Rattle.std.specs.Prelude.{◌≡◌, true, false, ◌&&◌, List, ℕ, ◌≤◌, ◌<◌, length, Float}
+use Rattle.std.specs.Prelude.{◌≡◌, true, false, ◌&&◌, List, ℕ, ◌≤◌, ◌<◌, length, Float, Result}
 use Rattle.std.proofs.Common.{subst, arith}
 use Rattle.answer.specs.declared.Refusal.{Refusal}
 use Rattle.answer.specs.declared.Refusal.TheVariants as Refusals
@@ -13,7 +13,6 @@ use Rattle.answer.specs.Answers.{draws_of}
 use Rattle.random.specs.declared.Random.{Random}
 use Rattle.random.specs.Generator.{after}
 use Rattle.random.specs.Draw.{Draw, supply_of, allowed}
-use Rattle.tree.specs.declared.Verdict.{Verdict}
 use Rattle.tree.specs.Tree.{Tree, nodes_of, tips_of}
 use Rattle.tree.specs.New.{Accepted}
 use Rattle.tree.specs.Valid.{Valid}
@@ -36,7 +35,7 @@ use Rattle.dating.specs.AgeCheckLaws.{ages-fine, ages-same, ages-few}
 use Rattle.dating.specs.AgeValidLaws.{sound-age, tip-age-valid}
 
 module _ (minima maxima : List Float) (p : FossilizedBirthDeath) (t : Tree) (g : Random) where
-  abbrev checks : ℕ → Verdict
+  abbrev checks : ℕ → Result (Unit {0}) Refusal
   checks a = ages_checked minima maxima p t a
 
   abbrev program : Draw (Reply Outcome)

@@ -1,14 +1,12 @@
 -- `Dating::initialize`: every tip at the middle of its ages, and the internal heights scaled to what is left under the origin, in the Rust's order of
 -- operations. Definitions only. Assumes nothing.
-use Rattle.std.specs.Prelude.{Bool, not, ◌&&◌, cond, List, ℕ, zero, suc, ltb, set, Float}
+use Rattle.std.specs.Prelude.{Bool, not, ◌&&◌, cond, List, ℕ, zero, suc, ltb, set, Float, Result, Ok, Err}
 use Rattle.std.specs.Float.{binary64}
 use Rattle.std.specs.Float.Ieee.{of_bits, lt, add, sub, mul, div}
 use Rattle.std.specs.Float.Ieee.Scale.{finite}
 use Rattle.answer.specs.declared.Refusal.TheVariants.{NotFinite}
 use Rattle.real.specs.Real as Real
 use Rattle.real.specs.Real.{max_of}
-use Rattle.tree.specs.declared.Verdict.{Verdict}
-use Rattle.tree.specs.declared.Verdict.TheVariants as Verdicts
 use Rattle.tree.specs.Tree.{Tree, nodes_of, tips_of, inner, height}
 use Rattle.calls.specs.Call.{and_then}
 use Rattle.calls.specs.Draws.{least}
@@ -16,6 +14,7 @@ use Rattle.process.specs.declared.FossilizedBirthDeath.{FossilizedBirthDeath}
 use Rattle.process.specs.Process.{process_finite}
 use Rattle.ages.specs.declared.TipAge.{TipAge}
 use Rattle.ages.specs.Ages.{age_of, table_checked}
+use Rattle.answer.specs.declared.Refusal.{Refusal}
 
 -- 2.0 and 0.8
 abbrev pub two : Float
@@ -75,21 +74,21 @@ start_fits minima maxima p t =
     process_finite p && lt Real.zero (height t t.root) && lt (oldest minima maxima (tips_of (nodes_of t.pairs))) p.origin
 
 -- 7: "lowest node whose new height is not finite"
-unfoldable pub all_finite : Start → Tree → Verdict
-all_finite s t = let k = least (overflows_at s t) s.nodes in cond (ltb k s.nodes) (Verdicts.Refused (NotFinite k)) Verdicts.Fine
+unfoldable pub all_finite : Start → Tree → Result (Unit {0}) Refusal
+all_finite s t = let k = least (overflows_at s t) s.nodes in cond (ltb k s.nodes) (Err (NotFinite k)) (Ok tt)
 
 -- what the call leaves: its answer, and the lent heights
 pub record Initialized : Type 0 where
-  pub answer : Verdict
+  pub answer : Result (Unit {0}) Refusal
   pub heights : List Float
 
-abbrev pub initialized : Verdict → List Float → Initialized
+abbrev pub initialized : Result (Unit {0}) Refusal → List Float → Initialized
 initialized answer heights = record { answer = answer; heights = heights }
 
 -- nothing is written where the call is turned back
-abbrev pub or_kept : Verdict → List Float → List Float → Initialized
-or_kept (Verdicts.Refused why) old new = initialized (Verdicts.Refused why) old
-or_kept Verdicts.Fine old new = initialized Verdicts.Fine new
+abbrev pub or_kept : Result (Unit {0}) Refusal → List Float → List Float → Initialized
+or_kept (Err why) old new = initialized (Err why) old
+or_kept (Ok tt) old new = initialized (Ok tt) new
 
 unfoldable pub initialize_call : List Float → List Float → FossilizedBirthDeath → Tree → Initialized
 initialize_call minima maxima p t =

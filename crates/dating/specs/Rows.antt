@@ -1,6 +1,6 @@
 -- Calls with an age table on tree F as rows of one statement on the definitions (`dating-rows`): of TipAge from the state 1,2,3,4 and another, and of
 -- `initialize`, with those that decline or are turned back. Of what each leaves, all is said. Assumes nothing.
-use Rattle.std.specs.Prelude.{◌≡◌, refl, List, [], ◌∷◌, ℕ, Float}
+use Rattle.std.specs.Prelude.{◌≡◌, refl, List, [], ◌∷◌, ℕ, Float, Ok, Err}
 use Rattle.std.specs.Float.{binary64}
 use Rattle.std.specs.Float.Ieee.{of_bits, lt, le, eq, add, sub, mul, div, round}
 use Rattle.words.specs.Words.{rotl}
@@ -13,7 +13,6 @@ use Rattle.random.specs.Generator.{word_of, next, uniform_of}
 use Rattle.random.specs.Xoshiro.{output, step, stepped}
 use Rattle.random.specs.Draw.{run, pick, onward, word_from, until_from, uniform, draw, ◌>>=◌, below, fair}
 use Rattle.real.specs.Real as Real
-use Rattle.tree.specs.declared.Verdict.TheVariants as Verdicts
 use Rattle.tree.specs.Tree.{Tree, parent, height, subtree}
 use Rattle.tree.specs.New.{validated, judged, scanned, scan, visit, then_adopt, adopt, joined, roots, agree, misdated, lowest}
 use Rattle.edits.specs.Slots.{set_height}
@@ -56,10 +55,10 @@ Refuses minima maxima origin t g allowance why = tip_age_call minima maxima (fro
 
 -- `initialize` on t gives these heights
 abbrev pub Initializes : List Float → List Float → Tree → List Float → Type 0
-Initializes minima maxima t new = initialize_call minima maxima (from 10·0) t ≡ initialized Verdicts.Fine new
+Initializes minima maxima t new = initialize_call minima maxima (from 10·0) t ≡ initialized (Ok tt) new
 
 abbrev pub Keeps : List Float → List Float → Tree → Refusal → Type 0
-Keeps minima maxima t why = initialize_call minima maxima (from 10·0) t ≡ initialized (Verdicts.Refused why) t.heights
+Keeps minima maxima t why = initialize_call minima maxima (from 10·0) t ≡ initialized (Err why) t.heights
 
 -- ---- the rows
 

@@ -1,7 +1,7 @@
 -- `initialize` leaves an accepted tree (`initialize-accepted`). In order: the middle of a tip's ages is not negative; the new heights in their list; the
 -- oldest tip is at least as old as each (`Oldest`); past the checks (`Fit`), the factor has no minus sign, no tip's new height is above the oldest and no
 -- internal node's below it, and the internal nodes stay in order; and the call. Assumes nothing.
-use Rattle.std.specs.Prelude.{◌≡◌, ◌≢◌, Bool, true, false, ◌&&◌, cond, List, ltb, length, set}
+use Rattle.std.specs.Prelude.{◌≡◌, ◌≢◌, Bool, true, false, ◌&&◌, cond, List, ltb, length, set, Result, Ok, Err}
 use Rattle.std.proofs.Math.Path.{refl}
 use Rattle.std.proofs.Common.{sym, ◌∙◌, subst, arith, lt-ltb, le-ltb, ltb-false, get_or-set_same}
 use Prim.Native.Nat.{ℕ, zero, suc, ◌+◌, ◌≤◌, ◌<◌}
@@ -20,8 +20,6 @@ use Rattle.real.specs.Real.{max_of}
 use Rattle.real.specs.OrderLaws.{lt→le, le_refl, le_trans, le_lt_trans, max-finite, le_max_left, le_max_right}
 use Rattle.real.specs.MonotoneLaws.{unsigned, unsigned-finite, zero-le, add-unsigned, sub-unsigned, mul-unsigned, div-unsigned, add-le, le-add}
 use Rattle.real.specs.SignedLaws.{NotNegative, positive-unsigned, unsigned-not-negative, add-not-negative, sub-not-negative, mul-not-negative, div-not-negative, times-le, magnitude, magnitude-unsigned, magnitude-le, add-magnitude, add-finite-right, mul-finite-right, div-finite-left}
-use Rattle.tree.specs.declared.Verdict.{Verdict}
-use Rattle.tree.specs.declared.Verdict.TheVariants as Verdicts
 use Rattle.tree.specs.Tree.{Tree, nodes_of, tips_of, parent, height}
 use Rattle.tree.specs.Given.{tree_of}
 use Rattle.tree.specs.New.{Accepted}
@@ -44,6 +42,7 @@ use Rattle.ages.specs.CheckedLaws as Checks
 use Rattle.dating.specs.Initialize.{two, four_fifths, midpoint, oldest, stretch, Start, start_of, initial_height, overflows_at, initial_to, start_fits, all_finite, or_kept, initialize_call}
 use Rattle.dating.specs.AgeValidLaws.{Sound, sound-age}
 use Rattle.dating.specs.AgeCheckLaws.{within-fine}
+use Rattle.answer.specs.declared.Refusal.{Refusal}
 
 -- ---- a tip's new height
 
@@ -275,12 +274,12 @@ module _ {minima maxima : List Float} {p : FossilizedBirthDeath} {t : Tree} (g :
 -- ---- the call
 
 -- every new height is finite, where the call answers so
-all-finite : (s : Start) (t : Tree) → all_finite s t ≡ Verdicts.Fine → (k : ℕ) → k < s.nodes → T (finite (initial_height s k (height t k)))
+all-finite : (s : Start) (t : Tree) → all_finite s t ≡ (Ok tt) → (k : ℕ) → k < s.nodes → T (finite (initial_height s k (height t k)))
 unfolding all_finite
 all-finite s t e k K = go (ltb (least (overflows_at s t) s.nodes) s.nodes) refl e
   where
     go : (b : Bool) → ltb (least (overflows_at s t) s.nodes) s.nodes ≡ b
-        → cond b (Verdicts.Refused (NotFinite (least (overflows_at s t) s.nodes))) Verdicts.Fine ≡ Verdicts.Fine → T (finite (initial_height s k (height t k)))
+        → ◌≡◌ {A = Result (Unit {0}) Refusal} (cond b (Err (NotFinite (least (overflows_at s t) s.nodes))) (Ok tt)) (Ok tt) → T (finite (initial_height s k (height t k)))
     go true q e = clash cc
     go false q e =
         let z = ltb-false (least (overflows_at s t) s.nodes) s.nodes q in
@@ -291,12 +290,12 @@ unfolding process_finite
 finite-origin p h = and_r (finite p.birth && finite p.death && finite p.fossil_sampling && finite p.present_sampling) (finite p.origin) h
 
 -- a call that is not turned back leaves the new heights
-or_kept-fine : (x : Verdict) (old new : List Float) → (or_kept x old new).answer ≡ Verdicts.Fine → (x ≡ Verdicts.Fine) × ((or_kept x old new).heights ≡ new)
-or_kept-fine Verdicts.Fine old new e = (refl, refl)
-or_kept-fine (Verdicts.Refused why) old new e = clash cc
+or_kept-fine : (x : Result (Unit {0}) Refusal) (old new : List Float) → (or_kept x old new).answer ≡ (Ok tt) → (x ≡ (Ok tt)) × ((or_kept x old new).heights ≡ new)
+or_kept-fine (Ok tt) old new e = (refl, refl)
+or_kept-fine (Err why) old new e = clash cc
 
 -- `Tree::new` accepts the tree with the heights that `initialize` leaves where it answers Fine
-pub initialize-accepted : (minima maxima : List Float) (p : FossilizedBirthDeath) (t : Tree) → (initialize_call minima maxima p t).answer ≡ Verdicts.Fine
+pub initialize-accepted : (minima maxima : List Float) (p : FossilizedBirthDeath) (t : Tree) → (initialize_call minima maxima p t).answer ≡ (Ok tt)
     → Accepted (tree_of t.pairs t.parents (initialize_call minima maxima p t).heights t.root)
 unfolding initialize_call start_fits
 initialize-accepted minima maxima p t e =

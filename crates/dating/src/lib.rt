@@ -16,12 +16,13 @@ ghost use Rattle.dating.specs.Given.{start_with, start_in, start_call, left_to};
 
 use ages::TipAge;
 use answer::{Ratio, Refusal};
-use calls::{Answered, Height, Turn, Turned};
+use calls::{Answered, Turn, Turned};
 use process::FossilizedBirthDeath;
 use random::{Random, Supply};
-use tree::Verdict;
+use tree::Tree;
 
 // The middle of a tip's ages.
+#[tactic(auto, unfolding(crate::specs::Initialize::midpoint))]
 fn midpoint(age: TipAge) -> f64
     ensures { result ≡ midpoint age }
 {
@@ -29,19 +30,19 @@ fn midpoint(age: TipAge) -> f64
 }
 
 // The oldest of so many tips at the middle of their ages, and 0.0 at least.
+#[tactic(auto, unfolding(crate::specs::Initialize::oldest))]
 fn oldest(minima: &[f64], maxima: &[f64], tips: usize) -> f64
     ensures { result ≡ oldest minima.now maxima.now tips }
 {
     let mut old = 0.0;
-    let mut tip = 0;
-    while tip < tips {
+    for tip in 0..tips {
         old = real::max(old, midpoint(ages::age_of(minima, maxima, tip)));
-        tip += 1;
     }
     old
 }
 
 // 0.8 of what is left under the origin, over the root's height.
+#[tactic(auto, unfolding(crate::specs::Initialize::stretch))]
 fn stretch(origin: f64, old: f64, top: f64) -> f64
     ensures { result ≡ stretch origin old top }
 {
@@ -49,6 +50,7 @@ fn stretch(origin: f64, old: f64, top: f64) -> f64
 }
 
 // The new height of a node of so many that was at `height`.
+#[tactic(auto, unfolding(crate::specs::Initialize::initial_height))]
 fn initial_height(
     minima: &[f64],
     maxima: &[f64],
@@ -61,21 +63,20 @@ fn initial_height(
     ensures { result ≡ initial_height (start_with nodes minima.now maxima.now old factor) node height }
 {
     if reads::is_inner(nodes, node) {
-        return old + height * factor;
+        old + height * factor
+    } else {
+        midpoint(ages::age_of(minima, maxima, node))
     }
-    midpoint(ages::age_of(minima, maxima, node))
 }
 
 // The lowest node whose new height is not finite, or the number of nodes where every one is.
+#[tactic(auto, using(crate::proofs::InitializeLaws::lowest_laws))]
 fn lowest_overflow(heights: &[f64], minima: &[f64], maxima: &[f64], old: f64, factor: f64) -> usize
     ensures { result ≡ least (overflows_at (start_with (length heights.now) minima.now maxima.now old factor) (kin_in [] heights.now)) (length heights.now) }
 {
     let nodes = heights.len();
-    let mut k = 0;
-    while k < nodes {
-        if real::is_finite(initial_height(minima, maxima, nodes, old, factor, k, heights[k])) {
-            k += 1;
-        } else {
+    for (k, h) in heights.iter().enumerate() {
+        if !real::is_finite(initial_height(minima, maxima, nodes, old, factor, k, *h)) {
             return k;
         }
     }
@@ -83,19 +84,26 @@ fn lowest_overflow(heights: &[f64], minima: &[f64], maxima: &[f64], old: f64, fa
 }
 
 // Every node takes its new height.
+#[tactic(auto, using(crate::proofs::InitializeLaws::set_laws))]
 fn set_heights(heights: &mut [f64], minima: &[f64], maxima: &[f64], old: f64, factor: f64)
     ensures { heights.new ≡ initial_to (start_with (length heights.old) minima.now maxima.now old factor) (kin_in [] heights.old) (length heights.old) }
 {
+    // By index: behind `iter_mut().enumerate()` nothing is known of what is written.
     let nodes = heights.len();
-    let mut k = 0;
-    while k < nodes {
+    for k in 0..nodes {
         heights[k] = initial_height(minima, maxima, nodes, old, factor, k, heights[k]);
-        k += 1;
     }
 }
 
 // Every node takes its new height, or none where one is not finite.
-fn start(heights: &mut [f64], root: usize, minima: &[f64], maxima: &[f64], origin: f64) -> Verdict
+#[tactic(auto, using(crate::proofs::StartLaws::start_laws))]
+fn start(
+    heights: &mut [f64],
+    root: usize,
+    minima: &[f64],
+    maxima: &[f64],
+    origin: f64,
+) -> Result<(), Refusal>
     ensures { initialized result heights.new ≡ start_call (start_in (length heights.old) minima.now maxima.now origin (get_or heights.old root nan)) (kin_in [] heights.old) }
 {
     let nodes = heights.len();
@@ -103,13 +111,14 @@ fn start(heights: &mut [f64], root: usize, minima: &[f64], maxima: &[f64], origi
     let factor = stretch(origin, old, reads::height(heights, root));
     let k = lowest_overflow(heights, minima, maxima, old, factor);
     if k < nodes {
-        return Verdict::Refused(Refusal::NotFinite(k));
+        return Err(Refusal::NotFinite(k));
     }
     set_heights(heights, minima, maxima, old, factor);
-    Verdict::Fine
+    Ok(())
 }
 
 // Whether the parameters of `initialize` are within their limits.
+#[tactic(auto, unfolding(crate::specs::Initialize::start_fits, tree::specs::Tree::height))]
 fn is_start(
     pairs: &[u16],
     heights: &[f64],
@@ -120,16 +129,13 @@ fn is_start(
 ) -> bool
     ensures { result ≡ start_fits minima.now maxima.now process (tree_of pairs.now [] heights.now root) }
 {
-    if process.is_finite() {
-        if 0.0 < reads::height(heights, root) {
-            return oldest(minima, maxima, ages::tips(pairs.len() / 2)) < process.origin;
-        }
-        return false;
-    }
-    false
+    process.is_finite()
+        && 0.0 < reads::height(heights, root)
+        && oldest(minima, maxima, ages::tips(pairs.len() / 2)) < process.origin
 }
 
 // Every tip at the middle of its ages, and the internal heights scaled to what is left under the origin.
+#[tactic(auto, using(crate::proofs::StartLaws::initialize_laws))]
 pub fn initialize(
     pairs: &[u16],
     parents: &[u16],
@@ -138,20 +144,18 @@ pub fn initialize(
     minima: &[f64],
     maxima: &[f64],
     process: FossilizedBirthDeath,
-) -> Verdict
+) -> Result<(), Refusal>
     ensures { initialized result heights.new ≡ initialize_call minima.now maxima.now process (tree_of pairs.now parents.now heights.old root) }
 {
     let limits = is_start(pairs, heights, root, minima, maxima, process);
-    match ages::check(
-        pairs, parents, heights, root, minima, maxima, process, limits,
-    ) {
-        Verdict::Refused(why) => {
-            return Verdict::Refused(why);
-        }
-        Verdict::Fine => {
-            return start(heights, root, minima, maxima, process.origin);
-        }
-    }
+    let tree = Tree {
+        pairs,
+        parents,
+        heights: &*heights,
+        root,
+    };
+    ages::check(&tree, minima, maxima, process, limits)?;
+    start(heights, root, minima, maxima, process.origin)
 }
 
 // The interval that is left to a tip of these ages under a height.
@@ -175,6 +179,7 @@ fn declined(supply: Supply) -> Turn
 
 // A tip of these ages takes a height from its least age to the lower of its greatest and its parent's, drawn from the supply `between`; s is
 // the turn's.
+#[tactic(auto, using(crate::proofs::TipAgeLaws::age_tip_laws))]
 fn age_tip(
     parents: &[u16],
     heights: &mut [f64],
@@ -190,32 +195,27 @@ fn age_tip(
     if left.maximum <= left.minimum {
         return declined(between);
     }
-    let u = between.uniform();
-    let last = u.supply;
-    if u.ok {
-        match calls::interpolate(left.minimum, left.maximum, u.value) {
-            Height::At(x) => {
-                edits::set_height(heights, tip, x);
-                return Turn {
-                    turned: Turned::Moved(root, Ratio::Even),
-                    supply: last,
-                };
-            }
-            Height::Outside => {
-                return Turn {
-                    turned: Turned::Outside(tip),
-                    supply: last,
-                };
-            }
-        }
-    }
+    let Some((u, last)) = between.uniform() else {
+        return Turn {
+            turned: Turned::Spent,
+            supply: s,
+        };
+    };
+    let Some(x) = calls::interpolate(left.minimum, left.maximum, u) else {
+        return Turn {
+            turned: Turned::Outside(tip),
+            supply: last,
+        };
+    };
+    edits::set_height(heights, tip, x);
     Turn {
-        turned: Turned::Spent,
-        supply: s,
+        turned: Turned::Moved(root, Ratio::Even),
+        supply: last,
     }
 }
 
 // A tip takes a height from its least age to the lower of its greatest and its parent's.
+#[tactic(auto, using(crate::proofs::TipAgeLaws::tip_age_laws))]
 fn propose_age_turn(
     pairs: &[u16],
     parents: &[u16],
@@ -227,16 +227,14 @@ fn propose_age_turn(
 ) -> Turn
     ensures { after result pairs.now parents.now heights.new ≡ turn_of (tree_of pairs.now parents.now heights.old root) s (run (tip_age minima.now maxima.now (tree_of pairs.now parents.now heights.old root)) s) }
 {
-    let d = s.below(ages::tips(pairs.len() / 2));
-    let between = d.supply;
-    if d.ok {
-        let age = ages::age_of(minima, maxima, d.value);
-        return age_tip(parents, heights, root, d.value, age, between, s);
-    }
-    Turn {
-        turned: Turned::Spent,
-        supply: s,
-    }
+    let Some((tip, between)) = s.below(ages::tips(pairs.len() / 2)) else {
+        return Turn {
+            turned: Turned::Spent,
+            supply: s,
+        };
+    };
+    let age = ages::age_of(minima, maxima, tip);
+    age_tip(parents, heights, root, tip, age, between, s)
 }
 
 // Whether the parameters of `propose_age` are within their limits.
@@ -247,6 +245,7 @@ fn is_limited(process: FossilizedBirthDeath, allowance: u32) -> bool
 }
 
 // TipAge, by at most `allowance` draws.
+#[tactic(auto, using(crate::proofs::TipAgeLaws::propose_laws))]
 pub fn propose_age(
     pairs: &[u16],
     parents: &[u16],
@@ -261,19 +260,19 @@ pub fn propose_age(
     ensures { called result.answer result.random pairs.now parents.now heights.new ≡ tip_age_call minima.now maxima.now process (tree_of pairs.now parents.now heights.old root) random allowance }
 {
     let limits = is_limited(process, allowance);
-    match ages::check(
-        pairs, parents, heights, root, minima, maxima, process, limits,
-    ) {
-        Verdict::Refused(why) => {
-            return calls::refuse(why, random);
-        }
-        Verdict::Fine => {
-            let s = Supply {
-                random,
-                left: allowance,
-            };
-            let turn = propose_age_turn(pairs, parents, heights, root, minima, maxima, s);
-            return calls::answer(turn, random, allowance);
-        }
+    let tree = Tree {
+        pairs,
+        parents,
+        heights: &*heights,
+        root,
+    };
+    if let Err(why) = ages::check(&tree, minima, maxima, process, limits) {
+        return calls::refuse(why, random);
     }
+    let s = Supply {
+        random,
+        left: allowance,
+    };
+    let turn = propose_age_turn(pairs, parents, heights, root, minima, maxima, s);
+    calls::answer(turn, random, allowance)
 }

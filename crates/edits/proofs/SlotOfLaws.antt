@@ -7,15 +7,12 @@ use native.Mathlib.Omega.{arith}
 use lib.ListN.{length, get_or}
 use mir.Syntax.{w16, w64}
 use mir.Val.{Fits}
-use mir.Facts.{Fits-widen, Fits-of_lt}
+use mir.Facts.{Fits-of_lt}
+use Rattle.tree.specs.PlaceLaws.{wide16}
 use Rattle.tree.specs.Tree.{nodes_of, parent}
 use Rattle.edits.specs.Slots.{slot_of, bare}
 use Rattle.edits.specs.SlotLaws.{slot-root, slot-first, slot-second}
 use Rattle.edits.specs.Needs.{Stands}
-
--- an element of a slice of u16, taken for a node
-pub wide : (xs : List ℕ) (i : ℕ) → ((j : ℕ) → Fits w16 (get_or xs j 0)) → Fits w64 (get_or xs i 0)
-wide xs i h = Fits-widen tt (h i)
 
 module _ (pairs parents : List ℕ) (root c : ℕ) where
   pub root-at : Stands pairs parents root c → c ≡ root → length pairs ≡ slot_of (nodes_of pairs) (bare pairs parents root) c
@@ -46,4 +43,4 @@ module _ (xs : List ℕ) (i : ℕ) (h : (j : ℕ) → Fits w16 (get_or xs j 0)) 
   pub next_fits : Fits w64 (get_or xs i 0 + get_or xs i 0 + 1)
   next_fits = let p : Fits w16 (get_or xs i 0) = h i in Fits-of_lt (omega arith)
 
-pub ruleset slot_of_laws = (wide, root-at, first-at, second_at, no-pair, no_node, pair_fits, next_fits)
+pub ruleset slot_of_laws = (wide16, root-at, first-at, second_at, no-pair, no_node, pair_fits, next_fits)

@@ -10,6 +10,8 @@ ghost use Rattle.tree.specs.Tree.{nodes_of};
 ghost use Rattle.edits.specs.Slots.{slot_of, put, swap, rotate, bare};
 ghost use Rattle.edits.specs.Needs.{Stands, Takes, Exchanges, Rotates};
 
+use tree::NO_NODE;
+
 // A number as it is lent, in 16 bits; a node's number and a slot's half fit.
 fn lent(x: usize) -> u16
     ensures { result ≡ x % 65536 }
@@ -18,40 +20,43 @@ fn lent(x: usize) -> u16
 }
 
 // The slot in which a node stands.
+#[tactic(auto, using(crate::proofs::SlotOfLaws::slot_of_laws))]
 pub fn slot_of(pairs: &[u16], parents: &[u16], root: usize, node: usize) -> usize
     ensures { Stands pairs.now parents.now root node → result ≡ slot_of (nodes_of pairs.now) (bare pairs.now parents.now root) node }
 {
     if node == root {
         return pairs.len();
     }
-    if node < parents.len() {
-        let p = parents[node] as usize;
-        let first = p + p;
-        if first < pairs.len() {
-            if pairs[first] as usize == node {
-                return first;
-            }
-            return first + 1;
-        }
+    if parents.len() <= node {
         return 0;
     }
-    0
+    let p = parents[node] as usize;
+    let first = p + p;
+    if pairs.len() <= first {
+        0
+    } else if pairs[first] as usize == node {
+        first
+    } else {
+        first + 1
+    }
 }
 
 // The node takes the slot, whatever stood there; the root afterwards.
+#[tactic(auto, using(crate::proofs::PutLaws::put_laws))]
 pub fn put(pairs: &mut [u16], parents: &mut [u16], root: usize, slot: usize, node: usize) -> usize
     ensures { Takes pairs.old parents.old slot node → bare pairs.new parents.new result ≡ put (nodes_of pairs.old) (bare pairs.old parents.old root) slot node }
 {
-    if node < parents.len() {
-        if slot < pairs.len() {
-            pairs[slot] = lent(node);
-            parents[node] = lent(slot / 2);
-            return root;
-        }
-        parents[node] = 65535;
-        return node;
+    if parents.len() <= node {
+        return root;
     }
-    root
+    if slot < pairs.len() {
+        pairs[slot] = lent(node);
+        parents[node] = lent(slot / 2);
+        root
+    } else {
+        parents[node] = NO_NODE;
+        node
+    }
 }
 
 // a and b change places, each onto the other's side; the root afterwards.

@@ -2,3 +2,4 @@
 mod WideLaws
 mod GrandLaws
 mod NarrowLaws
+mod MildLaws

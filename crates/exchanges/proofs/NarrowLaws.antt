@@ -8,11 +8,9 @@ use lib.Ieee.{Float, lt}
 use borrow.Author.Tests.{ltb-true}
 use Rattle.answer.specs.declared.Ratio.TheVariants.{Counts}
 use Rattle.random.specs.declared.Supply.{Supply}
-use Rattle.random.specs.declared.DrawnNumber.{DrawnNumber}
-use Rattle.random.specs.declared.DrawnSide.{DrawnSide}
-use Rattle.random.specs.Draw.{got, coin, pick, run, drawn_number, drawn_side}
+use Rattle.random.specs.Draw.{got, coin, pick, run, drawn}
 use Rattle.random.proofs.DrawLaws.{draw-got, draw-spent, bind-got, bind-spent, until-yields}
-use Rattle.random.specs.SupplyLaws.{number-got, number-spent, side-got, side-spent}
+use Rattle.random.specs.SupplyLaws.{drawn-got, drawn-spent}
 use Rattle.tree.specs.Tree.{Tree, nodes_of, inner, first, second, height}
 use Rattle.tree.specs.Valid.{Valid, Inner}
 use Rattle.tree.specs.Given.{tree_of, kin_in}
@@ -26,7 +24,8 @@ use Rattle.calls.specs.Draws.{internal}
 use Rattle.moves.specs.Programs.{narrow_exchange, grandparent, narrow_under}
 use Rattle.calls.specs.Given.{After, after, turn_of}
 use Rattle.calls.specs.YieldLaws.{Internal, internal-yields}
-use Rattle.exchanges.specs.Given.{pairs_in, taller_in, side_in, uncle_in, narrow_turn, AtInner, Narrows}
+use Rattle.std.specs.Prelude.{Some, None}
+use Rattle.exchanges.specs.Given.{pairs_in, spends, taller_in, side_in, uncle_in, narrow_turn, AtInner, Narrows}
 
 -- ---- what is read
 
@@ -133,16 +132,16 @@ module _ (pairs parents : List ℕ) (heights : List Float) (root g : ℕ) (b : B
     under-narrows : AtInner (nodes_of pairs) (tree_of pairs parents heights root) g → Narrows (nodes_of pairs) (tree_of pairs parents heights root) g
     under-narrows w = record { under = w; parent = taller-inner (nodes_of pairs) (tree_of pairs parents heights root) g (declines ∙ y) }
 
-    module _ (s u : Supply) (c : DrawnSide) (ec : c ≡ drawn_side u (run coin u)) where
-      pub under-spent : c.ok ≡ false → after (record { turned = Turns.Spent; supply = s }) pairs parents heights ≡ under pairs parents heights root g s u
+    module _ (s u : Supply) where
+      pub under-spent : None ≡ drawn (run coin u) → (r : Turn) → r ≡ spends s → after r pairs parents heights ≡ under pairs parents heights root g s u
       unfolding narrow_under turn_of
-      under-spent d = rw (declines, y, bind-spent coin _ u (side-spent u c _ ec d))
+      under-spent e r er = rw (er, declines, y, bind-spent coin _ u (drawn-spent _ e))
 
-      pub under_moved : c.ok ≡ true → AtInner (nodes_of pairs) (tree_of pairs parents heights root) g → (r : Turn) (p q : List ℕ)
-          → (Narrows (nodes_of pairs) (tree_of pairs parents heights root) g → after r p q heights ≡ narrow_turn (nodes_of pairs) (tree_of pairs parents heights root) g c.value c.supply)
+      pub under_moved : (c : Bool) (v : Supply) → Some (c, v) ≡ drawn (run coin u) → AtInner (nodes_of pairs) (tree_of pairs parents heights root) g → (r : Turn) (p q : List ℕ)
+          → (Narrows (nodes_of pairs) (tree_of pairs parents heights root) g → after r p q heights ≡ narrow_turn (nodes_of pairs) (tree_of pairs parents heights root) g c v)
           → after r p q heights ≡ under pairs parents heights root g s u
       unfolding narrow_under narrow_turn turn_of run
-      under_moved d w r p q f = rw (declines, y, bind-got coin _ u c.value c.supply (side-got u c _ ec d)) (f (under-narrows w))
+      under_moved c v e w r p q f = rw (declines, y, bind-got coin _ u c v (drawn-got _ c v e)) (f (under-narrows w))
 
 pub ruleset under_laws = (under-declined, under-spent, under_moved)
 
@@ -153,7 +152,7 @@ module _ (pairs parents : List ℕ) (heights : List Float) (root : ℕ) (s : Sup
   unfolding turn_of narrow_exchange run
   turn_one m = rw (← eo, m)
 
-  module _ (m : o ≡ false) (a : DrawnNumber) (ea : a ≡ drawn_number s (pick (grandparent (nodes_of pairs) (pairs_in pairs)) s)) where
+  module _ (m : o ≡ false) where
     abbrev n : ℕ
     n = nodes_of pairs
 
@@ -164,24 +163,26 @@ module _ (pairs parents : List ℕ) (heights : List Float) (root : ℕ) (s : Sup
     unfolding grandparent grand
     same = refl
 
-    pub turn-spent : a.ok ≡ false → after (record { turned = Turns.Spent; supply = s }) pairs parents heights ≡ ends pairs parents heights root s
+    pub turn-spent : None ≡ drawn (pick (grandparent (nodes_of pairs) (pairs_in pairs)) s) → (r : Turn) → r ≡ spends s
+        → after r pairs parents heights ≡ ends pairs parents heights root s
     unfolding turn_of narrow_exchange grandparent
-    turn-spent h = rw (← eo, m, draw-spent (grandparent n given) _ s (rw (← same) (number-spent s a _ ea h)))
+    turn-spent e r er = rw (er, ← eo, m, draw-spent (grandparent n given) _ s (rw (← same) (drawn-spent _ e)))
 
-    module _ (h : a.ok ≡ true) where
-      drawn : pick (grandparent n given) s ≡ got a.value a.supply
-      drawn = rw (← same) (number-got s a _ ea h)
+    -- g is the grandparent, and u the supply after it
+    module _ (g : ℕ) (u : Supply) (e : Some (g, u) ≡ drawn (pick (grandparent (nodes_of pairs) (pairs_in pairs)) s)) where
+      chosen : pick (grandparent n given) s ≡ got g u
+      chosen = rw (← same) (drawn-got _ g u e)
 
-      turn-under : Valid (nodes_of pairs) (tree_of pairs parents heights root) → AtInner (nodes_of pairs) (tree_of pairs parents heights root) a.value
+      turn-under : Valid (nodes_of pairs) (tree_of pairs parents heights root) → AtInner (nodes_of pairs) (tree_of pairs parents heights root) g
       unfolding grandparent
       turn-under v =
-          let g = (until-yields (Internal n) (grand n given) (internal n) (internal-yields n v.sized.odd) s a.value a.supply drawn).1 in
-          record { valid = v; node = g.node; inner = g.inner }
+          let i = (until-yields (Internal n) (grand n given) (internal n) (internal-yields n v.sized.odd) s g u chosen).1 in
+          record { valid = v; node = i.node; inner = i.inner }
 
       pub turn-done : Valid (nodes_of pairs) (tree_of pairs parents heights root) → (x : After)
-          → (AtInner (nodes_of pairs) (tree_of pairs parents heights root) a.value → x ≡ under pairs parents heights root a.value s a.supply)
+          → (AtInner (nodes_of pairs) (tree_of pairs parents heights root) g → x ≡ under pairs parents heights root g s u)
           → x ≡ ends pairs parents heights root s
       unfolding narrow_exchange grandparent narrow_under
-      turn-done v x f = rw (← eo, m, draw-got (grandparent n given) _ s a.value a.supply drawn) (f (turn-under v))
+      turn-done v x f = rw (← eo, m, draw-got (grandparent n given) _ s g u chosen) (f (turn-under v))
 
 pub ruleset narrow_turn_laws = (turn_one, turn-spent, turn-done)

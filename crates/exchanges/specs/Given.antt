@@ -6,6 +6,8 @@ use Rattle.tree.specs.Tree.{Tree}
 use Rattle.tree.specs.Given.{kin_in}
 use Rattle.tree.specs.Valid.{Valid}
 use Rattle.rules.specs.Rules.{taller, uncle, side_of, narrowed, narrow_ratio}
+use Rattle.calls.specs.declared.Turn.{Turn}
+use Rattle.calls.specs.declared.Turned.TheVariants as Turns
 use Rattle.calls.specs.Call.{makes, moved}
 use Rattle.calls.specs.Given.{After, turn_of}
 
@@ -24,6 +26,11 @@ side_in pairs hs g coin = side_of (kin_in pairs hs) coin (taller_in pairs hs g)
 
 unfoldable pub uncle_in : List ℕ → List Float → ℕ → ℕ
 uncle_in pairs hs g = uncle (kin_in pairs hs) g
+
+-- ---- a turn without the draws that it needs
+
+abbrev pub spends : Supply → Turn
+spends s = record { turned = Turns.Spent; supply = s }
 
 -- ---- a turn of NarrowExchange
 

@@ -1,23 +1,21 @@
--- The ways through the scales of a process: what is above a shift (`above_laws`), a field (`field_laws`), the limits (`limit_laws`), the process
--- with another value (`put_laws`), and the call (`fbd_laws`). Assumes nothing.
+-- The ways through the scales of a process: a field (`field_laws`), and the call (`fbd-done`). Assumes nothing.
 use mathlib.Core.Path.{◌≡◌, refl, sym, ap, ◌∙◌}
 use mathlib.Core.Bool.{Bool, true, false, ◌&&◌}
 use Prim.Native.Nat.{ℕ}
-use lib.Ieee.{Float, binary64, lt, add, sub, mul}
-use lib.Ieee.Scale.{finite}
+use lib.Ieee.{Float, binary64, add, sub, mul}
 use Rattle.answer.specs.declared.Refusal.TheVariants.{Parameter, Allowance}
 use Rattle.answer.specs.declared.Proposal.TheVariants as Proposals
 use Rattle.random.specs.declared.Random.{Random}
-use Rattle.random.specs.declared.DrawnReal.{DrawnReal}
-use Rattle.random.specs.Draw.{uniform, run, supply_of, allowed, drawn_real}
-use Rattle.real.specs.Real.{is_not_negative}
+use Rattle.random.specs.declared.Supply.{Supply}
+use Rattle.std.specs.Prelude.{Some, None}
+use Rattle.random.specs.Draw.{uniform, run, supply_of, allowed, drawn}
 use Rattle.calls.specs.Change.{proposed, value_call}
 use Rattle.calls.proofs.ChangeLaws.{put_in, value-limits, value-spent, value-undrawn, value-part}
-use Rattle.calls.specs.Draws.{scaler, tuned}
+use Rattle.calls.specs.Draws.{scaler}
 use Rattle.kinds.specs.declared.Move.{Move}
 use Rattle.process.specs.declared.FossilizedBirthDeath.{FossilizedBirthDeath}
 use Rattle.process.specs.declared.ProcessPriors.{ProcessPriors}
-use Rattle.process.specs.Process.{estimates, priors_finite, process_finite}
+use Rattle.process.specs.Process.{estimates}
 use Rattle.fields.specs.declared.Field.{Field}
 use Rattle.fields.specs.declared.Field.TheVariants.{Birth, Death, FossilSampling, Origin}
 use Rattle.scales.specs.declared.Scaled.{Scaled}
@@ -25,21 +23,10 @@ use Rattle.fields.specs.Fields.{above, shifted, field, move_of, value_of, put, s
 use Rattle.scales.specs.Given.{turned_back, settled}
 use Rattle.scales.specs.SettledLaws.{factored-got, factored-spent, call-left, settled-call}
 
--- ---- above a shift
-
-module _ (shift x : Float) (b : Bool) (e : b ≡ finite x) where
-  pub above-finite : b ≡ true → lt shift x ≡ above shift x
-  above-finite h = rw (← e, h)
-
-  pub above-not : b ≡ false → b ≡ above shift x
-  above-not h = rw (← e, h)
-
-pub ruleset above_laws = (above-finite, above-not)
-
 -- ---- a field
 
 module _ (limits estimated : Bool) (value shift tuning : Float) (g : Random) (allowance : ℕ) (a : Bool) (ea : a ≡ (limits && allowed allowance)) where
-  pub field-limits : a ≡ false → (r : Scaled) → r ≡ turned_back (Parameter 0) value g
+  pub field-limits : a ≡ false → (r : Scaled Float) → r ≡ turned_back (Parameter 0) value g
       → proposed r.proposal r.random r.value ≡ value_call limits (field estimated value shift tuning) value g allowance
   field-limits h r er = rw er (value-limits limits (field estimated value shift tuning) value g allowance (rw (← ea, h)))
 
@@ -51,54 +38,25 @@ module _ (limits estimated : Bool) (value shift tuning : Float) (g : Random) (al
     unfolding field
     field-undrawn h = value-undrawn limits (field estimated value shift tuning) value g allowance holds (rw h)
 
-    module _ (h : estimated ≡ true) (u : DrawnReal) (e : u ≡ drawn_real (supply_of g allowance) (run uniform (supply_of g allowance))) where
-      pub field-spent : u.ok ≡ false → (r : Scaled) → r ≡ turned_back (Allowance allowance) value g
+    module _ (h : estimated ≡ true) where
+      pub field-spent : None ≡ drawn (run uniform (supply_of g allowance)) → (r : Scaled Float) → r ≡ turned_back (Allowance allowance) value g
           → proposed r.proposal r.random r.value ≡ value_call limits (field estimated value shift tuning) value g allowance
       unfolding field shifted
-      field-spent k r er =
+      field-spent e r er =
           rw er (value-spent limits (field estimated value shift tuning) value g allowance holds
-          (rw h (factored-spent tuning (λ f. add binary64 shift (mul binary64 (sub binary64 value shift) f)) (above shift) (supply_of g allowance) u e k)))
+          (rw h (factored-spent tuning (λ f. add binary64 shift (mul binary64 (sub binary64 value shift) f)) (above shift) (supply_of g allowance) e)))
 
-      pub field-settled : u.ok ≡ true → (f : Float) → f ≡ scaler tuning u.value → (b : Bool) → b ≡ above shift (add binary64 shift (mul binary64 (sub binary64 value shift) f))
-          → (r : Scaled) → r ≡ settled b (add binary64 shift (mul binary64 (sub binary64 value shift) f)) value f allowance u.supply
+      -- v is the uniform that was drawn, and u the supply after it
+      pub field-settled : (v : Float) (u : Supply) → Some (v, u) ≡ drawn (run uniform (supply_of g allowance))
+          → (f : Float) → f ≡ scaler tuning v → (b : Bool) → b ≡ above shift (add binary64 shift (mul binary64 (sub binary64 value shift) f))
+          → (r : Scaled Float) → r ≡ settled b (add binary64 shift (mul binary64 (sub binary64 value shift) f)) value f allowance u
           → proposed r.proposal r.random r.value ≡ value_call limits (field estimated value shift tuning) value g allowance
       unfolding field shifted
-      field-settled k f ef b eb r er =
-          settled-call limits (field estimated value shift tuning) value g allowance holds b (add binary64 shift (mul binary64 (sub binary64 value shift) f)) f u.supply
-          (rw (h, eb) (factored-got tuning (λ f. add binary64 shift (mul binary64 (sub binary64 value shift) f)) (above shift) (supply_of g allowance) u e k f ef)) r er
+      field-settled v u e f ef b eb r er =
+          settled-call limits (field estimated value shift tuning) value g allowance holds b (add binary64 shift (mul binary64 (sub binary64 value shift) f)) f u
+          (rw (h, eb) (factored-got tuning (λ f. add binary64 shift (mul binary64 (sub binary64 value shift) f)) (above shift) (supply_of g allowance) v u e f ef)) r er
 
 pub ruleset field_laws = (field-limits, field-undrawn, call-left, field-spent, field-settled)
-
--- ---- the limits
-
-module _ (priors : ProcessPriors) (p : FossilizedBirthDeath) (offset tuning : Float) (a : Bool) (ea : a ≡ tuned tuning) where
-  pub limits-tuning : a ≡ false → false ≡ fbd_limits priors p offset tuning
-  unfolding fbd_limits
-  limits-tuning h = rw (← ea, h)
-
-  module _ (ha : a ≡ true) (b : Bool) (eb : b ≡ is_not_negative offset) where
-    pub limits-offset : b ≡ false → false ≡ fbd_limits priors p offset tuning
-    unfolding fbd_limits
-    limits-offset h = rw (← ea, ha, ← eb, h)
-
-    module _ (hb : b ≡ true) (c : Bool) (ec : c ≡ process_finite p) where
-      pub limits-process : c ≡ false → false ≡ fbd_limits priors p offset tuning
-      unfolding fbd_limits
-      limits-process h = rw (← ea, ha, ← eb, hb, ← ec, h)
-
-      pub limits-priors : c ≡ true → (d : Bool) → d ≡ priors_finite priors → d ≡ fbd_limits priors p offset tuning
-      unfolding fbd_limits
-      limits-priors h d ed = rw (← ea, ha, ← eb, hb, ← ec, h, ed)
-
-pub ruleset limit_laws = (limits-tuning, limits-offset, limits-process, limits-priors)
-
--- ---- the process with another value
-
-module _ (k j : Field) (e : k ≡ j) (p : FossilizedBirthDeath) (x : Float) where
-  pub put-at : (q : FossilizedBirthDeath) → q ≡ put j p x → q ≡ put k p x
-  put-at q h = rw (e, h)
-
-pub ruleset put_laws = (put-at)
 
 -- ---- the call
 
@@ -111,12 +69,10 @@ put_same Origin p = refl
 
 module _ (k : Field) (priors : ProcessPriors) (p : FossilizedBirthDeath) (offset tuning : Float) (g : Random) (allowance : ℕ) where
   pub fbd-done : (l : Bool) → l ≡ fbd_limits priors p offset tuning → (m : Move) → m ≡ move_of k → (b : Bool) → b ≡ estimates priors m → (v : Float) → v ≡ value_of k p
-      → (x : Float) → x ≡ shift_of k offset → (r : Scaled) → proposed r.proposal r.random r.value ≡ value_call l (field b v x tuning) v g allowance
+      → (x : Float) → x ≡ shift_of k offset → (r : Scaled Float) → proposed r.proposal r.random r.value ≡ value_call l (field b v x tuning) v g allowance
       → (q : FossilizedBirthDeath) → q ≡ put k p r.value → proposed r.proposal r.random q ≡ fbd_call k priors p offset tuning g allowance
   unfolding fbd
   fbd-done l el m em b eb v ev x ex r er q eq =
       let inner = rw (el, eb, em, ev, ex) at er in
       let part = value-part (put k p) (fbd_limits priors p offset tuning) (field (estimates priors (move_of k)) (value_of k p) (shift_of k offset) tuning) (value_of k p) g allowance in
       rw eq (ap (put_in (put k p)) inner ∙ sym (rw (put_same k p) at part))
-
-pub ruleset fbd_laws = (fbd-done)

@@ -1,3 +1,3 @@
 -- The laws that the proofs of fields share: one for each way through a function.
 mod FieldLaws
-mod MadeLaws
+pub mod MadeLaws

@@ -1,6 +1,6 @@
 -- Calls of the plain scales of a process as rows of one statement on the definitions (`field-rows`): what each scales, what it declines with its draw
 -- and without, and what turns it back. Of what each call leaves, all is said. Assumes nothing.
-use Rattle.std.specs.Prelude.{◌≡◌, refl, Float}
+use Rattle.std.specs.Prelude.{◌≡◌, refl, Float, Option, Some, None}
 use Rattle.std.specs.Float.{binary64}
 use Rattle.std.specs.Float.Ieee.{of_bits, lt, le, add, sub, mul, div, round}
 use Rattle.words.specs.Words.{rotl}
@@ -8,13 +8,9 @@ use Rattle.answer.specs.declared.Refusal.TheVariants.{Parameter}
 use Rattle.random.specs.Generator.{word_of, next, uniform_of}
 use Rattle.random.specs.Xoshiro.{output, step, stepped}
 use Rattle.random.specs.Draw.{run, pick, onward, word_from, uniform, ◌>>=◌}
-use Rattle.real.specs.declared.Optional.{Optional}
-use Rattle.real.specs.declared.Optional.TheVariants as Optionals
 use Rattle.real.specs.Real as Real
 use Rattle.process.specs.declared.FossilizedBirthDeath.{FossilizedBirthDeath}
 use Rattle.process.specs.declared.ProcessPriors.{ProcessPriors}
-use Rattle.process.specs.declared.Shapes.{Shapes}
-use Rattle.process.specs.declared.Shapes.TheVariants as Shapings
 use Rattle.process.specs.Process.{priors_finite, process_finite}
 use Rattle.rules.specs.Samples.{0·0, −0·0, 0·5, 1·0, 2·0, 2·5, 3·0, 5·0, example, example_root}
 use Rattle.calls.specs.Call.{ended}
@@ -31,34 +27,34 @@ use Rattle.fields.specs.Fields.{shifted, field, fbd, fbd_limits, fbd_call}
 abbrev process : Float → Float → Float → Float → Float → FossilizedBirthDeath
 process b d s p o = record { birth = b; death = d; fossil_sampling = s; present_sampling = p; origin = o }
 
-abbrev priors : Optional → Optional → Optional → Shapes → Optional → ProcessPriors
+abbrev priors : Option Float → Option Float → Option Float → Option (Float × Float) → Option Float → ProcessPriors
 priors b d s p o = record { birth_rate_mean = b; death_rate_mean = d; fossil_sampling_rate_mean = s; present_sampling_beta = p; origin_excess_mean = o }
 
 -- a mean that is given, and one that is not
-abbrev given : Optional
-given = Optionals.Given 1·0
+abbrev given : Option Float
+given = Some 1·0
 
-abbrev fixed : Optional
-fixed = Optionals.Missing
+abbrev fixed : Option Float
+fixed = None
 
 -- one parameter is estimated, or all but one
 abbrev birth_only : ProcessPriors
-birth_only = priors given fixed fixed Shapings.Missing fixed
+birth_only = priors given fixed fixed None fixed
 
 abbrev death_only : ProcessPriors
-death_only = priors fixed given fixed Shapings.Missing fixed
+death_only = priors fixed given fixed None fixed
 
 abbrev sampling_only : ProcessPriors
-sampling_only = priors fixed fixed given Shapings.Missing fixed
+sampling_only = priors fixed fixed given None fixed
 
 abbrev origin_only : ProcessPriors
-origin_only = priors fixed fixed fixed Shapings.Missing given
+origin_only = priors fixed fixed fixed None given
 
 abbrev all_but_birth : ProcessPriors
-all_but_birth = priors fixed given given (Shapings.Given 1·0 1·0) given
+all_but_birth = priors fixed given given (Some (1·0, 1·0)) given
 
 abbrev all_but_origin : ProcessPriors
-all_but_origin = priors given given given (Shapings.Given 1·0 1·0) fixed
+all_but_origin = priors given given given (Some (1·0, 1·0)) fixed
 
 -- the process of most rows, and with another origin
 abbrev from : Float → FossilizedBirthDeath
@@ -118,9 +114,9 @@ pub record FieldRows : Type 0 where
   -- 5: "parameters and process fields finite", the scaled one or not, and the priors; a negative mean is finite
   pub field_infinite : fbd_call Birth birth_only unbounded 1·0 0·5 start 9 ≡ refuses unbounded (Parameter 0) start
   pub origin_refused : fbd_call Origin origin_only (from Real.infinity) 1·0 0·5 start 9 ≡ refuses (from Real.infinity) (Parameter 0) start
-  pub mean_infinite : fbd_call Birth (priors given fixed fixed Shapings.Missing (Optionals.Given Real.infinity)) plain 1·0 0·5 start 9 ≡ refuses plain (Parameter 0) start
-  pub shape_infinite : fbd_call Birth (priors given fixed fixed (Shapings.Given 1·0 Real.infinity) fixed) plain 1·0 0·5 start 9 ≡ refuses plain (Parameter 0) start
-  pub mean_negative : fbd_call Birth (priors (Optionals.Given minus_one) fixed fixed Shapings.Missing fixed) plain 1·0 0·5 start 9 ≡ scales_to (process three_scaled 0·5 2·0 1·0 5·0) example 1 after_one
+  pub mean_infinite : fbd_call Birth (priors given fixed fixed None (Some Real.infinity)) plain 1·0 0·5 start 9 ≡ refuses plain (Parameter 0) start
+  pub shape_infinite : fbd_call Birth (priors given fixed fixed (Some (1·0, Real.infinity)) fixed) plain 1·0 0·5 start 9 ≡ refuses plain (Parameter 0) start
+  pub mean_negative : fbd_call Birth (priors (Some minus_one) fixed fixed None fixed) plain 1·0 0·5 start 9 ≡ scales_to (process three_scaled 0·5 2·0 1·0 5·0) example 1 after_one
   -- 5: "upper ends and offset finite, not negative", for any field; tuning and allowance
   pub offset_negative : fbd_call Birth birth_only plain minus_one 0·5 start 9 ≡ refuses plain (Parameter 0) start
   pub offset_infinite : fbd_call Origin origin_only plain Real.infinity 0·5 start 9 ≡ refuses plain (Parameter 0) start

@@ -12,14 +12,6 @@ use process::{FossilizedBirthDeath, ProcessPriors};
 use random::{Random, Supply};
 use scales::Scaled;
 
-// An answer, with the process and the generator after the call.
-#[derive(Clone, Copy)]
-pub struct ProcessScaled {
-    pub proposal: Proposal,
-    pub process: FossilizedBirthDeath,
-    pub random: Random,
-}
-
 // The fields of a process that are scaled.
 #[derive(Clone, Copy)]
 pub enum Field {
@@ -29,6 +21,7 @@ pub enum Field {
     Origin,
 }
 
+// Whether a value is finite and above a shift.
 fn is_above(shift: f64, x: f64) -> bool
     ensures { result ≡ above shift x }
 {
@@ -36,6 +29,7 @@ fn is_above(shift: f64, x: f64) -> bool
 }
 
 // A field of a process: shift + (value − shift)·f, above the shift; nothing is drawn for one that is not estimated.
+#[tactic(auto, using(crate::proofs::FieldLaws::field_laws))]
 fn field_scale(
     limits: bool,
     estimated: bool,
@@ -44,33 +38,33 @@ fn field_scale(
     tuning: f64,
     random: Random,
     allowance: u32,
-) -> Scaled
+) -> Scaled<f64>
     ensures { proposed result.proposal result.random result.value ≡ value_call limits (field estimated value shift tuning) value random allowance }
 {
-    if scales::is_fine(limits, allowance) {
-        if estimated {
-            let u = Supply {
-                random,
-                left: allowance,
-            }
-            .uniform();
-            let after = u.supply;
-            if u.ok {
-                let f = calls::scaler(tuning, u.value);
-                let x = shift + (value - shift) * f;
-                return scales::settle(is_above(shift, x), x, value, f, allowance, after);
-            }
-            return scales::refuse(Refusal::Allowance(allowance), value, random);
-        }
+    if !scales::is_fine(limits, allowance) {
+        return scales::refuse(Refusal::Parameter(0), value, random);
+    }
+    if !estimated {
         return Scaled {
             proposal: Proposal::Declined(0),
             value,
             random,
         };
     }
-    scales::refuse(Refusal::Parameter(0), value, random)
+    let supply = Supply {
+        random,
+        left: allowance,
+    };
+    let Some((u, after)) = supply.uniform() else {
+        return scales::refuse(Refusal::Allowance(allowance), value, random);
+    };
+    let f = calls::scaler(tuning, u);
+    let x = shift + (value - shift) * f;
+    scales::settle(is_above(shift, x), x, value, f, allowance, after)
 }
 
+// Whether the tuning, the offset, the process and its priors are within their limits.
+#[tactic(auto, unfolding(crate::specs::Fields::fbd_limits))]
 fn is_within_limits(
     priors: ProcessPriors,
     process: FossilizedBirthDeath,
@@ -79,16 +73,10 @@ fn is_within_limits(
 ) -> bool
     ensures { result ≡ fbd_limits priors process offset tuning }
 {
-    if calls::is_tuned(tuning) {
-        if real::is_not_negative(offset) {
-            if process.is_finite() {
-                return priors.is_finite();
-            }
-            return false;
-        }
-        return false;
-    }
-    false
+    calls::is_tuned(tuning)
+        && real::is_not_negative(offset)
+        && process.is_finite()
+        && priors.is_finite()
 }
 
 impl Field {
@@ -104,6 +92,7 @@ impl Field {
         }
     }
 
+    // The value of a field.
     fn of(self, process: FossilizedBirthDeath) -> f64
         ensures { result ≡ value_of self process }
     {
@@ -120,9 +109,7 @@ impl Field {
         ensures { result ≡ shift_of self offset }
     {
         match self {
-            Field::Birth => 0.0,
-            Field::Death => 0.0,
-            Field::FossilSampling => 0.0,
+            Field::Birth | Field::Death | Field::FossilSampling => 0.0,
             Field::Origin => offset,
         }
     }
@@ -131,22 +118,24 @@ impl Field {
     fn put(self, process: FossilizedBirthDeath, x: f64) -> FossilizedBirthDeath
         ensures { result ≡ put self process x }
     {
-        let mut p = process;
         match self {
-            Field::Birth => {
-                p.birth = x;
-            }
-            Field::Death => {
-                p.death = x;
-            }
-            Field::FossilSampling => {
-                p.fossil_sampling = x;
-            }
-            Field::Origin => {
-                p.origin = x;
-            }
+            Field::Birth => FossilizedBirthDeath {
+                birth: x,
+                ..process
+            },
+            Field::Death => FossilizedBirthDeath {
+                death: x,
+                ..process
+            },
+            Field::FossilSampling => FossilizedBirthDeath {
+                fossil_sampling: x,
+                ..process
+            },
+            Field::Origin => FossilizedBirthDeath {
+                origin: x,
+                ..process
+            },
         }
-        p
     }
 }
 
@@ -159,25 +148,17 @@ pub fn fbd_scale(
     tuning: f64,
     random: Random,
     allowance: u32,
-) -> ProcessScaled
-    ensures { proposed result.proposal result.random result.process ≡ fbd_call to priors process offset tuning random allowance }
+) -> Scaled<FossilizedBirthDeath>
+    ensures { proposed result.proposal result.random result.value ≡ fbd_call to priors process offset tuning random allowance }
 {
     let limits = is_within_limits(priors, process, offset, tuning);
     let estimated = priors.estimates(to.kind());
-    let r = field_scale(
-        limits,
-        estimated,
-        to.of(process),
-        to.shift(offset),
-        tuning,
-        random,
-        allowance,
-    );
-    let proposal = r.proposal;
-    let after = r.random;
-    ProcessScaled {
-        proposal,
-        process: to.put(process, r.value),
-        random: after,
+    let value = to.of(process);
+    let shift = to.shift(offset);
+    let scaled = field_scale(limits, estimated, value, shift, tuning, random, allowance);
+    Scaled {
+        proposal: scaled.proposal,
+        value: to.put(process, scaled.value),
+        random: scaled.random,
     }
 }

@@ -5,11 +5,14 @@
 ghost use Rattle.std.specs.Prelude.{◌≡◌, drop};
 ghost use Rattle.text.specs.Text.{line_end};
 ghost use Rattle.text.specs.Rules.{onward, literal, fixed, word, decimal};
-ghost use Rattle.text.specs.Places.{placed, numbered, DigitValues};
+ghost use Rattle.text.specs.Places.{numbered};
 ghost use Rattle.forms.specs.Forms.{entry, next, most_nodes, words, kinds, later_kinds, one_of, takes_node, takes_tuning, edition_line, draws_line, state_line, move_line, node_line, tuning_line, tips_line, pair_line, height_line};
 ghost use Rattle.forms.specs.Given.{worded, named, paired};
 
-use text::{Number, Place};
+use text::DigitTable;
+
+// The largest number of a node.
+const MOST_NODES: u32 = 65535;
 
 // The moves that a file can name.
 #[derive(Clone, Copy)]
@@ -32,260 +35,194 @@ pub struct Words {
     pub d: u64,
 }
 
-// Four words and where they end.
-#[derive(Clone, Copy)]
-pub enum Four {
-    Given(Words, usize),
-    Malformed,
-}
-
-// The name of a move and where it ends.
-#[derive(Clone, Copy)]
-pub enum Named {
-    Name(Kind, usize),
-    Unknown,
-}
-
-// The children of a node and where their line ends.
-#[derive(Clone, Copy)]
-pub enum Pair {
-    Children(u16, u16, usize),
-    Malformed,
-}
-
 // The end of a line after its number.
-fn end_line(s: &[u8], n: Number) -> Number
+#[tactic(auto, using(crate::proofs::LineLaws::end_laws))]
+fn end_line(s: &[u8], n: Option<(u64, usize)>) -> Option<(u64, usize)>
     ensures { numbered s.now result ≡ onward (numbered s.now n) (fixed line_end) }
 {
-    let Number::Value(v, i) = n else {
-        return Number::Malformed;
-    };
-    let Place::At(e) = text::read_byte(s, i, 10) else {
-        return Number::Malformed;
-    };
-    Number::Value(v, e)
+    let (v, i) = n?;
+    let e = text::read_byte(s, i, 10)?;
+    Some((v, e))
 }
 
-pub fn read_number_line(s: &[u8], at: usize, key: &[u8], limit: u32) -> Number
+#[tactic(auto, using(crate::proofs::LineLaws::key_laws))]
+pub fn read_number_line(s: &[u8], at: usize, key: &[u8], limit: u32) -> Option<(u64, usize)>
     ensures { numbered s.now result ≡ entry key.now (decimal limit) (drop at s.now) }
 {
-    let Place::At(i) = text::read_literal(s, at, key) else {
-        return Number::Malformed;
-    };
+    let i = text::read_literal(s, at, key)?;
     end_line(s, text::read_decimal(s, i, limit))
 }
 
-fn read_word_line(s: &[u8], at: usize, key: &[u8], values: &[u8; 256]) -> Number
-    requires { DigitValues values.now }
+#[tactic(auto, using(crate::proofs::LineLaws::key_laws))]
+fn read_word_line(s: &[u8], at: usize, key: &[u8], table: &DigitTable) -> Option<(u64, usize)>
     ensures { numbered s.now result ≡ entry key.now word (drop at s.now) }
 {
-    let Place::At(i) = text::read_literal(s, at, key) else {
-        return Number::Malformed;
-    };
-    end_line(s, text::read_word(s, i, values))
+    let i = text::read_literal(s, at, key)?;
+    end_line(s, text::read_word(s, i, table))
 }
 
 // A fixed text, for which a number stands.
-fn read_fixed(s: &[u8], at: usize, text: &[u8], n: u64) -> Number
+#[tactic(auto, using(crate::proofs::LineLaws::fixed_laws))]
+fn read_fixed(s: &[u8], at: usize, text: &[u8], n: u64) -> Option<(u64, usize)>
     ensures { numbered s.now result ≡ fixed text.now n (drop at s.now) }
 {
-    let Place::At(e) = text::read_literal(s, at, text) else {
-        return Number::Malformed;
-    };
-    Number::Value(n, e)
+    let e = text::read_literal(s, at, text)?;
+    Some((n, e))
 }
 
-pub fn read_edition(s: &[u8]) -> Number
+#[tactic(auto, using(crate::proofs::LineLaws::fixed_laws))]
+pub fn read_edition(s: &[u8]) -> Option<(u64, usize)>
     ensures { numbered s.now result ≡ edition_line s.now }
 {
     read_fixed(s, 0, b"edition=1\n", 1)
 }
 
-pub fn read_draws(s: &[u8], at: usize) -> Number
+#[tactic(auto, unfolding(crate::specs::Forms::draws_line))]
+pub fn read_draws(s: &[u8], at: usize) -> Option<(u64, usize)>
     ensures { numbered s.now result ≡ draws_line (drop at s.now) }
 {
-    read_number_line(s, at, b"draws=", 4294967295)
+    read_number_line(s, at, b"draws=", u32::MAX)
 }
 
-pub fn read_tips(s: &[u8], at: usize) -> Number
+#[tactic(auto, unfolding(crate::specs::Forms::tips_line))]
+pub fn read_tips(s: &[u8], at: usize) -> Option<(u64, usize)>
     ensures { numbered s.now result ≡ tips_line (drop at s.now) }
 {
-    read_number_line(s, at, b"tips=", 4294967295)
+    read_number_line(s, at, b"tips=", u32::MAX)
 }
 
 pub fn takes_node(kind: Kind) -> bool
     ensures { result ≡ takes_node kind }
 {
-    match kind {
-        Kind::NodeHeight => false,
-        Kind::SubtreeSlide => true,
-        Kind::NarrowExchange => false,
-        Kind::WideExchange => false,
-        Kind::WilsonBalding => false,
-        Kind::RootScale => false,
-        Kind::TreeScale => false,
-    }
+    matches!(kind, Kind::SubtreeSlide)
 }
 
 pub fn takes_tuning(kind: Kind) -> bool
     ensures { result ≡ takes_tuning kind }
 {
-    match kind {
-        Kind::NodeHeight => false,
-        Kind::SubtreeSlide => true,
-        Kind::NarrowExchange => false,
-        Kind::WideExchange => false,
-        Kind::WilsonBalding => false,
-        Kind::RootScale => true,
-        Kind::TreeScale => true,
-    }
+    matches!(kind, Kind::SubtreeSlide | Kind::RootScale | Kind::TreeScale)
 }
 
-pub fn read_node(s: &[u8], at: usize, kind: Kind) -> Number
+#[tactic(auto, using(crate::proofs::LineLaws::fixed_laws))]
+pub fn read_node(s: &[u8], at: usize, kind: Kind) -> Option<(u64, usize)>
     ensures { numbered s.now result ≡ node_line kind (drop at s.now) }
 {
-    if takes_node(kind) {
-        return read_number_line(s, at, b"node=", 65535);
-    }
-    read_number_line(s, at, b"node=", 0)
+    read_number_line(
+        s,
+        at,
+        b"node=",
+        if takes_node(kind) { MOST_NODES } else { 0 },
+    )
 }
 
-pub fn read_tuning(s: &[u8], at: usize, kind: Kind, values: &[u8; 256]) -> Number
-    requires { DigitValues values.now }
+#[tactic(auto, using(crate::proofs::LineLaws::fixed_laws))]
+pub fn read_tuning(s: &[u8], at: usize, kind: Kind, table: &DigitTable) -> Option<(u64, usize)>
     ensures { numbered s.now result ≡ tuning_line kind (drop at s.now) }
 {
     if takes_tuning(kind) {
-        return read_word_line(s, at, b"tuning=", values);
+        read_word_line(s, at, b"tuning=", table)
+    } else {
+        read_fixed(s, at, b"tuning=0000000000000000\n", 0)
     }
-    read_fixed(s, at, b"tuning=0000000000000000\n", 0)
 }
 
-pub fn read_height(s: &[u8], at: usize, values: &[u8; 256]) -> Number
-    requires { DigitValues values.now }
+#[tactic(auto, unfolding(crate::specs::Forms::height_line))]
+pub fn read_height(s: &[u8], at: usize, table: &DigitTable) -> Option<(u64, usize)>
     ensures { numbered s.now result ≡ height_line (drop at s.now) }
 {
-    read_word_line(s, at, b"height=", values)
+    read_word_line(s, at, b"height=", table)
 }
 
 // A word after a comma.
-fn read_next_word(s: &[u8], at: usize, values: &[u8; 256]) -> Number
-    requires { DigitValues values.now }
+#[tactic(auto, using(crate::proofs::LineLaws::next_laws))]
+fn read_next_word(s: &[u8], at: usize, table: &DigitTable) -> Option<(u64, usize)>
     ensures { numbered s.now result ≡ next word (drop at s.now) }
 {
-    let Place::At(i) = text::read_byte(s, at, b',') else {
-        return Number::Malformed;
-    };
-    text::read_word(s, i, values)
+    let i = text::read_byte(s, at, b',')?;
+    text::read_word(s, i, table)
 }
 
-fn read_words(s: &[u8], at: usize, values: &[u8; 256]) -> Four
-    requires { DigitValues values.now }
+#[tactic(auto, using(crate::proofs::LineLaws::words_laws))]
+fn read_words(s: &[u8], at: usize, table: &DigitTable) -> Option<(Words, usize)>
     ensures { worded s.now result ≡ words (drop at s.now) }
 {
-    let Number::Value(a, i) = text::read_word(s, at, values) else {
-        return Four::Malformed;
-    };
-    let Number::Value(b, j) = read_next_word(s, i, values) else {
-        return Four::Malformed;
-    };
-    let Number::Value(c, k) = read_next_word(s, j, values) else {
-        return Four::Malformed;
-    };
-    let Number::Value(d, e) = read_next_word(s, k, values) else {
-        return Four::Malformed;
-    };
-    Four::Given(Words { a, b, c, d }, e)
+    let (a, i) = text::read_word(s, at, table)?;
+    let (b, j) = read_next_word(s, i, table)?;
+    let (c, k) = read_next_word(s, j, table)?;
+    let (d, e) = read_next_word(s, k, table)?;
+    Some((Words { a, b, c, d }, e))
 }
 
-pub fn read_generator(s: &[u8], at: usize, values: &[u8; 256]) -> Four
-    requires { DigitValues values.now }
+#[tactic(auto, using(crate::proofs::LineLaws::value_laws), unfolding(crate::specs::Forms::state_line))]
+pub fn read_generator(s: &[u8], at: usize, table: &DigitTable) -> Option<(Words, usize)>
     ensures { worded s.now result ≡ state_line (drop at s.now) }
 {
-    let Place::At(i) = text::read_literal(s, at, b"state=") else {
-        return Four::Malformed;
-    };
-    let Four::Given(w, j) = read_words(s, i, values) else {
-        return Four::Malformed;
-    };
-    let Place::At(e) = text::read_byte(s, j, 10) else {
-        return Four::Malformed;
-    };
-    Four::Given(w, e)
+    let i = text::read_literal(s, at, b"state=")?;
+    let (w, j) = read_words(s, i, table)?;
+    let e = text::read_byte(s, j, 10)?;
+    Some((w, e))
 }
 
 // The later names.
-fn read_later_name(s: &[u8], at: usize) -> Named
+fn read_later_name(s: &[u8], at: usize) -> Option<(Kind, usize)>
     ensures { named s.now result ≡ one_of later_kinds (drop at s.now) }
 {
-    if let Place::At(i) = text::read_literal(s, at, b"WilsonBalding") {
-        return Named::Name(Kind::WilsonBalding, i);
+    if let Some(i) = text::read_literal(s, at, b"WilsonBalding") {
+        return Some((Kind::WilsonBalding, i));
     }
-    if let Place::At(i) = text::read_literal(s, at, b"RootScale") {
-        return Named::Name(Kind::RootScale, i);
+    if let Some(i) = text::read_literal(s, at, b"RootScale") {
+        return Some((Kind::RootScale, i));
     }
-    if let Place::At(i) = text::read_literal(s, at, b"TreeScale") {
-        return Named::Name(Kind::TreeScale, i);
+    if let Some(i) = text::read_literal(s, at, b"TreeScale") {
+        return Some((Kind::TreeScale, i));
     }
-    Named::Unknown
+    None
 }
 
-fn read_name(s: &[u8], at: usize) -> Named
+fn read_name(s: &[u8], at: usize) -> Option<(Kind, usize)>
     ensures { named s.now result ≡ one_of kinds (drop at s.now) }
 {
-    if let Place::At(i) = text::read_literal(s, at, b"NodeHeight") {
-        return Named::Name(Kind::NodeHeight, i);
+    if let Some(i) = text::read_literal(s, at, b"NodeHeight") {
+        return Some((Kind::NodeHeight, i));
     }
-    if let Place::At(i) = text::read_literal(s, at, b"SubtreeSlide") {
-        return Named::Name(Kind::SubtreeSlide, i);
+    if let Some(i) = text::read_literal(s, at, b"SubtreeSlide") {
+        return Some((Kind::SubtreeSlide, i));
     }
-    if let Place::At(i) = text::read_literal(s, at, b"NarrowExchange") {
-        return Named::Name(Kind::NarrowExchange, i);
+    if let Some(i) = text::read_literal(s, at, b"NarrowExchange") {
+        return Some((Kind::NarrowExchange, i));
     }
-    if let Place::At(i) = text::read_literal(s, at, b"WideExchange") {
-        return Named::Name(Kind::WideExchange, i);
+    if let Some(i) = text::read_literal(s, at, b"WideExchange") {
+        return Some((Kind::WideExchange, i));
     }
     read_later_name(s, at)
 }
 
-pub fn read_move(s: &[u8], at: usize) -> Named
+#[tactic(auto, using(crate::proofs::LineLaws::value_laws), unfolding(crate::specs::Forms::move_line))]
+pub fn read_move(s: &[u8], at: usize) -> Option<(Kind, usize)>
     ensures { named s.now result ≡ move_line (drop at s.now) }
 {
-    let Place::At(i) = text::read_literal(s, at, b"move=") else {
-        return Named::Unknown;
-    };
-    let Named::Name(kind, j) = read_name(s, i) else {
-        return Named::Unknown;
-    };
-    let Place::At(e) = text::read_byte(s, j, 10) else {
-        return Named::Unknown;
-    };
-    Named::Name(kind, e)
+    let i = text::read_literal(s, at, b"move=")?;
+    let (kind, j) = read_name(s, i)?;
+    let e = text::read_byte(s, j, 10)?;
+    Some((kind, e))
 }
 
 // A node's number after a comma.
-fn read_next_node(s: &[u8], at: usize) -> Number
+#[tactic(auto, using(crate::proofs::LineLaws::next_laws))]
+fn read_next_node(s: &[u8], at: usize) -> Option<(u64, usize)>
     ensures { numbered s.now result ≡ next (decimal most_nodes) (drop at s.now) }
 {
-    let Place::At(i) = text::read_byte(s, at, b',') else {
-        return Number::Malformed;
-    };
-    text::read_decimal(s, i, 65535)
+    let i = text::read_byte(s, at, b',')?;
+    text::read_decimal(s, i, MOST_NODES)
 }
 
-pub fn read_pair(s: &[u8], at: usize) -> Pair
+#[tactic(auto, using(crate::proofs::LineLaws::pair_laws))]
+pub fn read_pair(s: &[u8], at: usize) -> Option<(u16, u16, usize)>
     ensures { paired s.now result ≡ pair_line (drop at s.now) }
 {
-    let Place::At(i) = text::read_literal(s, at, b"pair=") else {
-        return Pair::Malformed;
-    };
-    let Number::Value(a, j) = text::read_decimal(s, i, 65535) else {
-        return Pair::Malformed;
-    };
-    let Number::Value(b, k) = read_next_node(s, j) else {
-        return Pair::Malformed;
-    };
-    let Place::At(e) = text::read_byte(s, k, 10) else {
-        return Pair::Malformed;
-    };
-    Pair::Children(a as u16, b as u16, e)
+    let i = text::read_literal(s, at, b"pair=")?;
+    let (a, j) = text::read_decimal(s, i, MOST_NODES)?;
+    let (b, k) = read_next_node(s, j)?;
+    let e = text::read_byte(s, k, 10)?;
+    Some((a as u16, b as u16, e))
 }

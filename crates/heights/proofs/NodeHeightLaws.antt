@@ -1,7 +1,7 @@
 -- The ways through NodeHeight: an internal node other than the root (`non_root_internal_laws`), the taller child's height (`floor_laws`), a height for
 -- a node (`place_laws`), and the turn (`node_height_laws`). Assumes nothing.
-use mathlib.Core.Path.{◌≡◌, refl, sym, ap, ◌∙◌}
-use mathlib.Core.Bool.{Bool, true, false, true≢false, not}
+use mathlib.Core.Path.{◌≡◌, refl, sym, ◌∙◌}
+use mathlib.Core.Bool.{Bool, false, true≢false, not}
 use mathlib.Core.List.{List}
 use Prim.Native.Nat.{ℕ, ◌+◌, ◌-◌, ◌/◌, ◌^◌, ◌≤◌, ◌<◌}
 use native.Mathlib.Omega.{arith}
@@ -13,11 +13,9 @@ use mir.Syntax.{w64}
 use borrow.Author.Tests.{eq-eqb, ne_eqb}
 use Rattle.answer.specs.declared.Ratio.TheVariants.{Even}
 use Rattle.random.specs.declared.Supply.{Supply}
-use Rattle.random.specs.declared.DrawnNumber.{DrawnNumber}
-use Rattle.random.specs.declared.DrawnReal.{DrawnReal}
-use Rattle.random.specs.Draw.{below_other, uniform, pick, run, drawn_number, drawn_real}
+use Rattle.random.specs.Draw.{below_other, uniform, got, pick, run, drawn}
 use Rattle.random.proofs.DrawLaws.{draw-got, draw-spent, until-yields}
-use Rattle.random.specs.SupplyLaws.{number-got, number-spent}
+use Rattle.random.specs.SupplyLaws.{drawn-got, drawn-spent}
 use Rattle.real.specs.Real.{max_of}
 use Rattle.tree.specs.Tree.{Tree, nodes_of, tips_of, parent, height}
 use Rattle.tree.specs.Valid.{Valid}
@@ -29,8 +27,6 @@ use Rattle.rules.specs.Rules as Rules
 use Rattle.rules.specs.Rules.{internals, one_internal, floor}
 use Rattle.calls.specs.declared.Turn.{Turn}
 use Rattle.calls.specs.declared.Turned.TheVariants as Turns
-use Rattle.calls.specs.declared.Height.{Height}
-use Rattle.calls.specs.declared.Height.TheVariants as Heights
 use Rattle.calls.specs.Call.{Outcome, moved}
 use Rattle.calls.specs.Draws.{internal}
 use Rattle.moves.specs.Programs.{node_height, non_root_internal, placing}
@@ -39,6 +35,7 @@ use Rattle.calls.specs.YieldLaws.{Internal, internal-yields}
 use Rattle.calls.proofs.HeightLaws.{height-spent, height-inside, height-outside}
 use Rattle.heights.specs.Given.{shaped, has_kin, stays}
 use Rattle.heights.proofs.RangeLaws.{valid-kin}
+use Rattle.std.specs.Prelude.{Option, Some, None}
 
 -- ---- an internal node other than the root
 
@@ -52,8 +49,8 @@ module _ (n : ℕ) where
   pub non-root-internal-fits : Fits w64 n → n - n / 2 + n / 2 < 2 ^ 64
   non-root-internal-fits h = let z = h.fits in omega arith
 
-  pub non-root-internal-is : (root : ℕ) (s : Supply) (r : DrawnNumber) → r ≡ drawn_number s (pick (below_other (n / 2) (n - n / 2) root) s)
-      → r ≡ drawn_number s (pick (non_root_internal n root) s)
+  pub non-root-internal-is : (root : ℕ) (s : Supply) (r : Option (ℕ × Supply)) → r ≡ drawn (pick (below_other (n / 2) (n - n / 2) root) s)
+      → r ≡ drawn (pick (non_root_internal n root) s)
   unfolding non_root_internal internal below_other
   non-root-internal-is root s r e = rw (half, rest) e
 
@@ -77,28 +74,26 @@ module _ (pairs parents : List ℕ) (heights : List Float) (root k : ℕ) (betwe
   abbrev make : Float → Outcome
   make x = moved (Rules.height_moved here k x) Even
 
-  -- u is the uniform
-  module _ (u : DrawnReal) (e : u ≡ drawn_real between (run uniform between)) where
-    pub place-spent : u.ok ≡ false → after_on Turns.Spent s here ≡ turn_of here s (run (placing here k) between)
+  pub place-spent : None ≡ drawn (run uniform between) → after_on Turns.Spent s here ≡ turn_of here s (run (placing here k) between)
+  unfolding placing turn_of
+  place-spent e = rw (height-spent k (floor here k) (height here (parent here k)) make between e)
+
+  -- u is the uniform, last the supply after it, and the height is from lower to the parent's
+  module _ (u : Float) (last : Supply) (e : Some (u, last) ≡ drawn (run uniform between)) (lower : Float) (el : lower ≡ floor (kin_in pairs heights) k) where
+    -- it is the one of the definition
+    shown : height_of lower (get_or heights (get_or parents k 0) nan) u ≡ height_of (floor here k) (height here (parent here k)) u
+    unfolding height parent
+    shown = rw el
+
+    pub place-outside : None ≡ height_of lower (get_or heights (get_or parents k 0) nan) u
+        → after_on (Turns.Outside k) last here ≡ turn_of here s (run (placing here k) between)
     unfolding placing turn_of
-    place-spent f = rw (height-spent k (floor here k) (height here (parent here k)) make between u e f)
+    place-outside q = rw (height-outside k (floor here k) (height here (parent here k)) make between u last e (q ∙ shown))
 
-    -- y is the height, from lower to the parent's
-    module _ (f : u.ok ≡ true) (lower : Float) (el : lower ≡ floor (kin_in pairs heights) k) (y : Height)
-        (ey : y ≡ height_of lower (get_or heights (get_or parents k 0) nan) u.value) where
-      -- it is the one of the definition
-      shown : y ≡ height_of (floor here k) (height here (parent here k)) u.value
-      unfolding height parent
-      shown = rw (ey, el)
-
-      pub place-outside : y ≡ Heights.Outside → after_on (Turns.Outside k) u.supply here ≡ turn_of here s (run (placing here k) between)
-      unfolding placing turn_of
-      place-outside q = rw (height-outside k (floor here k) (height here (parent here k)) make between u e f y shown q)
-
-      pub place-moved : (x : Float) → y ≡ Heights.At x → (hs : List Float) → hs ≡ set heights k x
-          → after_on (Turns.Moved root Even) u.supply (tree_of pairs parents hs root) ≡ turn_of here s (run (placing here k) between)
-      unfolding placing turn_of set_height
-      place-moved x q hs w = rw (height-inside k (floor here k) (height here (parent here k)) make between u e f y shown x q, w)
+    pub place-moved : (x : Float) → Some x ≡ height_of lower (get_or heights (get_or parents k 0) nan) u → (hs : List Float) → hs ≡ set heights k x
+        → after_on (Turns.Moved root Even) last (tree_of pairs parents hs root) ≡ turn_of here s (run (placing here k) between)
+    unfolding placing turn_of set_height
+    place-moved x q hs w = rw (height-inside k (floor here k) (height here (parent here k)) make between u last e x (q ∙ shown), w)
 
 pub ruleset place_laws = (place-spent, place-outside, place-moved)
 
@@ -123,28 +118,28 @@ module _ (pairs parents : List ℕ) (heights : List Float) (root : ℕ) (s : Sup
     unfolding node_height turn_of run
     turn_alone h r er = let few = v.sized.some in rw (er, eq-eqb (internals n) 1 (omega (arith, h, few, long)))
 
-    -- d is the node that was drawn
-    module _ (h : 2 ≤ length heights / 2) (d : DrawnNumber) (e : d ≡ drawn_number s (pick (non_root_internal (length heights) root) s)) where
+    module _ (h : 2 ≤ length heights / 2) where
       several : one_internal n ≡ false
       several = ne_eqb (internals n) 1 (λ q. omega (arith, h, long, q))
 
-      drawn : d ≡ drawn_number s (pick (non_root_internal n root) s)
-      drawn = e ∙ ap (λ (m : ℕ). drawn_number s (pick (non_root_internal m root) s)) long
-
-      pub turn-spent : d.ok ≡ false → after_on Turns.Spent s t ≡ turn_of t s (run (node_height t) s)
+      pub turn-spent : None ≡ drawn (pick (non_root_internal (length heights) root) s) → after_on Turns.Spent s t ≡ turn_of t s (run (node_height t) s)
       unfolding node_height turn_of non_root_internal
-      turn-spent f = rw (several, draw-spent _ _ s (number-spent s d _ drawn f))
+      turn-spent e = rw (several, draw-spent _ _ s (drawn-spent _ (rw long at e)))
 
-      module _ (f : d.ok ≡ true) where
-        pub turn-placed : (a : After) → a ≡ turn_of t s (run (placing t d.value) d.supply) → a ≡ turn_of t s (run (node_height t) s)
+      -- k is the node that was drawn, and u the supply after it
+      module _ (k : ℕ) (u : Supply) (e : Some (k, u) ≡ drawn (pick (non_root_internal (length heights) root) s)) where
+        chosen : pick (non_root_internal n root) s ≡ got k u
+        chosen = drawn-got _ k u (rw long at e)
+
+        pub turn-placed : (a : After) → a ≡ turn_of t s (run (placing t k) u) → a ≡ turn_of t s (run (node_height t) s)
         unfolding node_height non_root_internal placing
-        turn-placed a q = rw (q, several, draw-got _ _ s d.value d.supply (number-got s d _ drawn f))
+        turn-placed a q = rw (q, several, draw-got _ _ s k u chosen)
 
-        -- k is whether the node and its kin are in range, as they are in a valid tree
-        pub turn-kinless : (k : Bool) → k ≡ has_kin pairs parents heights d.value → k ≡ false → (a : After) → a ≡ turn_of t s (run (node_height t) s)
+        -- b is whether the node and its kin are in range, as they are in a valid tree
+        pub turn-kinless : (b : Bool) → b ≡ has_kin pairs parents heights k → b ≡ false → (a : After) → a ≡ turn_of t s (run (node_height t) s)
         unfolding non_root_internal
-        turn-kinless k ek g a =
-            let y = until-yields (Internal n) (λ j. not (eqb j root)) (internal n) (internal-yields n v.sized.odd) s d.value d.supply (number-got s d _ drawn f) in
-            absurd (true≢false (sym (ek ∙ valid-kin pairs parents heights root v d.value y.1.node y.1.inner (neqb→ne d.value root (rw y.0 tt))) ∙ g))
+        turn-kinless b eb g a =
+            let y = until-yields (Internal n) (λ j. not (eqb j root)) (internal n) (internal-yields n v.sized.odd) s k u chosen in
+            absurd (true≢false (sym (eb ∙ valid-kin pairs parents heights root v k y.1.node y.1.inner (neqb→ne k root (rw y.0 tt))) ∙ g))
 
 pub ruleset node_height_laws = (turn-misshapen, turn_alone, turn-spent, turn-placed, turn-kinless)

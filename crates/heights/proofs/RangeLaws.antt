@@ -1,72 +1,21 @@
--- The tests of what is in range: the ways through them (`range_laws`), what one that passed shows, for the reads that it guards (`kin_laws`), and that
--- a valid tree passes them (`valid-children`, `valid-kin`). Assumes nothing.
+-- The tests of what is in range: what one that passed shows, for the reads that it guards (`kin_laws`), and that a valid tree passes them
+-- (`valid-children`, `valid-kin`). Assumes nothing.
 use mathlib.Core.Path.{◌≡◌}
-use mathlib.Core.Bool.{Bool, true, false, ◌&&◌}
+use mathlib.Core.Bool.{Bool, true, ◌&&◌}
 use mathlib.Core.List.{List}
-use Prim.Native.Nat.{ℕ, ◌+◌, ◌/◌, ◌≤◌, ◌<◌}
+use Prim.Native.Nat.{ℕ, ◌+◌, ◌/◌, ◌<◌}
 use native.Mathlib.Omega.{arith}
-use lib.Dec.{T, ltb, leb, eqb, ltb→lt}
+use lib.Dec.{T, ltb, ltb→lt}
 use lib.ListN.{length, get_or}
 use lib.Ieee.{Float}
 use lib.Ieee.Fits.{and_l, and_r}
-use borrow.Author.Tests.{lt-ltb, le-ltb, le-leb, lt-leb, eq-eqb, ne_eqb}
+use borrow.Author.Tests.{lt-ltb}
 use Rattle.tree.specs.Tree.{nodes_of, first_in, second_in, parent}
 use Rattle.tree.specs.Valid.{Valid}
 use Rattle.tree.specs.Given.{tree_of}
 use Rattle.tree.specs.PlaceLaws.{wide16, next_place}
 use Rattle.accepted.specs.RootLaws.{root-inner}
-use Rattle.heights.specs.Given.{shaped, has_children, has_kin, scalable}
-
--- ---- the tests
-
-module _ (pairs parents : List ℕ) (n : ℕ) where
-  pub shape-parents : nodes_of pairs ≡ n → eqb (length parents) n ≡ shaped pairs parents n
-  shape-parents h = rw (eq-eqb (nodes_of pairs) n h)
-
-  pub shape-pairs : (nodes_of pairs ≡ n → ⊥) → eqb (nodes_of pairs) n ≡ shaped pairs parents n
-  shape-pairs h = rw (ne_eqb (nodes_of pairs) n h)
-
-module _ (heights : List Float) (root : ℕ) where
-  pub scalable-few : length heights ≤ 4095 → ltb root (length heights) ≡ scalable heights root
-  scalable-few h = rw (le-leb (length heights) 4095 h)
-
-  pub scalable-many : 4095 < length heights → leb (length heights) 4095 ≡ scalable heights root
-  scalable-many h = rw (lt-leb (length heights) 4095 h)
-
-module _ (pairs : List ℕ) (heights : List Float) (k : ℕ) where
-  pub children-past : length heights ≤ k → false ≡ has_children pairs heights k
-  unfolding has_children
-  children-past h = rw (le-ltb k (length heights) h)
-
-  module _ (h : k < length heights) where
-    pub children-unpaired : length pairs / 2 ≤ k → false ≡ has_children pairs heights k
-    unfolding has_children
-    children-unpaired p = rw (lt-ltb k (length heights) h, le-ltb k (length pairs / 2) p)
-
-    module _ (p : k < length pairs / 2) where
-      pub children-second : get_or pairs (k + k) 0 < length heights → ltb (get_or pairs (k + k + 1) 0) (length heights) ≡ has_children pairs heights k
-      unfolding has_children
-      children-second f = rw (lt-ltb k (length heights) h, lt-ltb k (length pairs / 2) p, lt-ltb (first_in pairs k) (length heights) f, next_place pairs k)
-
-      pub children-first : length heights ≤ get_or pairs (k + k) 0 → ltb (get_or pairs (k + k) 0) (length heights) ≡ has_children pairs heights k
-      unfolding has_children
-      children-first f = rw (lt-ltb k (length heights) h, lt-ltb k (length pairs / 2) p, le-ltb (first_in pairs k) (length heights) f)
-
-  -- b is whether the children are in range
-  module _ (parents : List ℕ) (b : Bool) (e : b ≡ has_children pairs heights k) where
-    pub kin-childless : b ≡ false → false ≡ has_kin pairs parents heights k
-    unfolding has_kin
-    kin-childless f = rw (← e, f)
-
-    pub kin-past : b ≡ true → length parents ≤ k → false ≡ has_kin pairs parents heights k
-    unfolding has_kin
-    kin-past t p = rw (← e, t, le-ltb k (length parents) p)
-
-    pub kin-tested : b ≡ true → k < length parents → ltb (get_or parents k 0) (length heights) ≡ has_kin pairs parents heights k
-    unfolding has_kin
-    kin-tested t p = rw (← e, t, lt-ltb k (length parents) p)
-
-pub ruleset range_laws = (wide16, shape-parents, shape-pairs, scalable-few, scalable-many, children-past, children-unpaired, children-second, children-first, kin-childless, kin-past, kin-tested)
+use Rattle.heights.specs.Given.{has_children, has_kin}
 
 -- ---- what they show
 

@@ -1,5 +1,5 @@
 -- The ways through TreeScale: the lowest node that overflows (`lowest_laws`), the heights that are scaled (`scale_laws`), the ratio
--- (`ratio_laws`), the turn (`tree_scale_laws`), and the answer with the heights after it (`scale_answer_laws`, `scale-power`). Assumes nothing.
+-- (`ratio_laws`), the turn (`tree_scale_laws`), and the answer with the heights after it (`scale_answer_laws`). Assumes nothing.
 use mathlib.Core.Path.{◌≡◌, refl, sym, ap, ◌∙◌}
 use mathlib.Core.Bool.{Bool, true, false, true≢false, not, ◌&&◌, cond}
 use mathlib.Core.List.{List}
@@ -9,7 +9,7 @@ use native.Mathlib.Numerals.{add-one}
 use lib.Dec.{T, ltb, leb, leb→le, ltb→lt}
 use lib.ListN.{length, get_or, set}
 use lib.Seq.{get_or-set_other}
-use lib.IntN.{ℤ, pos, negsuc, ◌-ℤ◌}
+use lib.IntN.{pos, negsuc, ◌-ℤ◌}
 use lib.Ieee.{Float, nan, binary64, mul}
 use lib.Ieee.Bits.{is_true}
 use lib.Ieee.Fits.{and_l, and_r}
@@ -18,20 +18,14 @@ use mir.Val.{SFits, to_z, of_z}
 use mir.Syntax.{w32}
 use mir.Facts.{to_z_pos, to_z-of_z}
 use borrow.Author.Tests.{lt-ltb, le-ltb, le-leb}
-use Rattle.answer.specs.declared.Answer.{Answer}
-use Rattle.answer.specs.declared.Answer.TheVariants as Answers
-use Rattle.answer.specs.declared.Moved.{Moved}
 use Rattle.answer.specs.declared.Refusal.{Refusal}
 use Rattle.answer.specs.declared.Ratio.{Ratio}
 use Rattle.answer.specs.declared.Ratio.TheVariants.{Power}
 use Rattle.random.specs.declared.Random.{Random}
 use Rattle.random.specs.declared.Supply.{Supply}
-use Rattle.random.specs.declared.DrawnReal.{DrawnReal}
-use Rattle.random.specs.Draw.{Draw, uniform, got, run, supply_of, drawn_real}
+use Rattle.random.specs.Draw.{Draw, uniform, got, run, supply_of, drawn}
 use Rattle.random.proofs.DrawLaws.{bind-got, bind-spent}
 use Rattle.tree.specs.Tree.{Tree, nodes_of, inner, height}
-use Rattle.tree.specs.declared.Verdict.{Verdict}
-use Rattle.tree.specs.declared.Verdict.TheVariants as Verdicts
 use Rattle.tree.specs.Valid.{Valid}
 use Rattle.tree.specs.Given.{tree_of}
 use Rattle.tree.specs.PlaceLaws.{wide16}
@@ -49,9 +43,10 @@ use Rattle.calls.specs.Harmless.{Unvalidated, Turning}
 use Rattle.calls.proofs.EntryLaws.{unvalidated-refused, unvalidated-done}
 use Rattle.calls.specs.LeastLaws.{least-none, least_step, least-stop, least-some}
 use Rattle.heights.specs.Given.{heights_of, scalable, scaled_with, scaled_turn, scaled_by}
-use Rattle.random.specs.SupplyLaws.{real-got, real-spent}
+use Rattle.random.specs.SupplyLaws.{drawn-got, drawn-spent}
 use Rattle.heights.specs.ProductLaws.{height-finite}
 use Rattle.accepted.specs.RootLaws.{root-inner}
+use Rattle.std.specs.Prelude.{Some, None, Result, Ok, Err}
 
 -- ---- the lowest node that overflows
 
@@ -178,16 +173,16 @@ module _ (heights : List Float) (root : ℕ) (c : Bool) (e : c ≡ scalable heig
   pub root-place : root < length heights
   root-place = ltb→lt root (length heights) (and_r (leb (length heights) 4095) (ltb root (length heights)) passed)
 
-module _ (pairs parents : List ℕ) (heights : List Float) (root : ℕ) (tuning : Float) (s : Supply) (u : DrawnReal) (e : u ≡ drawn_real s (run uniform s)) where
+module _ (pairs parents : List ℕ) (heights : List Float) (root : ℕ) (tuning : Float) (s : Supply) where
   abbrev t : Tree
   t = tree_of pairs parents heights root
 
   abbrev n : ℕ
   n = nodes_of pairs
 
-  pub tree-spent : u.ok ≡ false → after_on Turns.Spent s t ≡ turn_of t s (run (tree_scale tuning t) s)
+  pub tree-spent : None ≡ drawn (run uniform s) → after_on Turns.Spent s t ≡ turn_of t s (run (tree_scale tuning t) s)
   unfolding tree_scale turn_of
-  tree-spent g = rw (bind-spent uniform _ s (real-spent s u (run uniform s) e g))
+  tree-spent e = rw (bind-spent uniform _ s (drawn-spent _ e))
 
   -- c is whether the root is in range and the tree no larger than any, as it is where it is valid
   pub tree-unscalable : Valid (nodes_of pairs) (tree_of pairs parents heights root) → (c : Bool) → c ≡ scalable heights root → c ≡ false → (a : After)
@@ -195,8 +190,9 @@ module _ (pairs parents : List ℕ) (heights : List Float) (root : ℕ) (tuning 
   tree-unscalable v c ec k a =
       absurd (true≢false (sym (ec ∙ rw (v.sized.heights, le-leb n 4095 v.sized.few, lt-ltb root n v.root_node)) ∙ k))
 
-  -- f is the factor, and b whether its product with the root's height is finite
-  module _ (v : Valid (nodes_of pairs) (tree_of pairs parents heights root)) (g : u.ok ≡ true) (f : Float) (ef : f ≡ scaler tuning u.value) (b : Bool)
+  -- u is the uniform, next the supply after it, f the factor, and b whether its product with the root's height is finite
+  module _ (v : Valid (nodes_of pairs) (tree_of pairs parents heights root)) (u : Float) (next : Supply) (e : Some (u, next) ≡ drawn (run uniform s))
+      (f : Float) (ef : f ≡ scaler tuning u) (b : Bool)
       (eb : b ≡ finite (mul binary64 (get_or heights root nan) f)) where
     abbrev k : ℕ
     k = least (overflows n t f) n
@@ -205,9 +201,9 @@ module _ (pairs parents : List ℕ) (heights : List Float) (root : ℕ) (tuning 
     long = v.sized.heights
 
     -- the turn, with k the lowest node that overflows
-    ran : run (tree_scale tuning t) s ≡ got (cond (ltb k n) (not_finite k) (makes (moved (tree_scaled n t f) (tree_scale_ratio n f)))) u.supply
+    ran : run (tree_scale tuning t) s ≡ got (cond (ltb k n) (not_finite k) (makes (moved (tree_scaled n t f) (tree_scale_ratio n f)))) next
     unfolding tree_scale run
-    ran = rw (bind-got uniform _ s u.value u.supply (real-got s u (run uniform s) e g), ← ef)
+    ran = rw (bind-got uniform _ s u next (drawn-got _ u next e), ← ef)
 
     -- none does where the root's product is finite
     all-finite : b ≡ true → k ≡ n
@@ -222,16 +218,16 @@ module _ (pairs parents : List ℕ) (heights : List Float) (root : ℕ) (tuning 
         go false x z = refl
 
     moved_to : b ≡ true → (z : Ratio) → z ≡ tree_scale_ratio (length heights) f → (hs : List Float) → hs ≡ (scaled_to (length heights) (heights_of heights) f (length heights)).heights
-        → after_on (Turns.Moved root z) u.supply (tree_of pairs parents hs root) ≡ turn_of t s (run (tree_scale tuning t) s)
+        → after_on (Turns.Moved root z) next (tree_of pairs parents hs root) ≡ turn_of t s (run (tree_scale tuning t) s)
     unfolding turn_of
     moved_to y z ez hs w = rw (ran, all-finite y, le-ltb n n (omega arith), scaled-whole n t f n, ez, w, long)
 
     pub tree-moved : b ≡ true → (z : Ratio) → z ≡ tree_scale_ratio (length heights) f
-        → after_on (Turns.Moved root z) u.supply (tree_of pairs parents (scaled_with z heights) root) ≡ turn_of t s (run (tree_scale tuning t) s)
+        → after_on (Turns.Moved root z) next (tree_of pairs parents (scaled_with z heights) root) ≡ turn_of t s (run (tree_scale tuning t) s)
     tree-moved y z ez = moved_to y z ez (scaled_with z heights) (ap (λ (x : Ratio). scaled_with x heights) ez)
 
     pub tree-not-finite : b ≡ false → (j : ℕ) → j ≡ least (overflows (length heights) (heights_of heights) f) (length heights)
-        → after_on (Turns.NotFinite j) u.supply t ≡ turn_of t s (run (tree_scale tuning t) s)
+        → after_on (Turns.NotFinite j) next t ≡ turn_of t s (run (tree_scale tuning t) s)
     unfolding turn_of height
     tree-not-finite y j ej =
         let m : least (overflows n t f) n < n = least-some (overflows n t f) n root v.root_node (rw (lt-ltb n (root + root) (root-inner v), ← eb, y)) in
@@ -251,15 +247,15 @@ settled (Turns.NotFinite k) s g allowance hs = refl
 settled (Turns.Outside k) s g allowance hs = refl
 
 -- as for any unvalidated call (calls/EntryLaws)
-module _ (pairs parents : List ℕ) (heights : List Float) (root : ℕ) (limits b : Bool) (eb : b ≡ limits) (allowance : ℕ) (v : Verdict) (ev : v ≡ limited b allowance)
+module _ (pairs parents : List ℕ) (heights : List Float) (root : ℕ) (limits b : Bool) (eb : b ≡ limits) (allowance : ℕ) (v : Result (Unit {0}) Refusal) (ev : v ≡ limited b allowance)
     (program : Draw (Reply Outcome)) (g : Random) where
-  pub scale-refused : (why : Refusal) → v ≡ Verdicts.Refused why → (r : Answered) → r ≡ turned_back why g
+  pub scale-refused : (why : Refusal) → v ≡ Err why → (r : Answered) → r ≡ turned_back why g
       → Unvalidated limits program (tree_of pairs parents heights root) g allowance (called r.answer r.random pairs parents (scaled_by r.answer heights))
   scale-refused why y r er =
       let e : scaled_by r.answer heights ≡ heights = ap (λ (x : Answered). scaled_by x.answer heights) er in
       rw e (unvalidated-refused pairs parents heights root limits b eb allowance v ev program g why y r er)
 
-  pub scale-done : v ≡ Verdicts.Fine → (turn : Turn)
+  pub scale-done : v ≡ (Ok tt) → (turn : Turn)
       → Turning (Valid (nodes_of pairs) (tree_of pairs parents heights root)) (turn_of (tree_of pairs parents heights root) (supply_of g allowance) (run program (supply_of g allowance)))
       (tree_of pairs parents heights root) (supply_of g allowance) (after turn pairs parents (scaled_turn turn.turned heights))
       → (r : Answered) → r ≡ answered_of turn.turned turn.supply g allowance
@@ -269,8 +265,3 @@ module _ (pairs parents : List ℕ) (heights : List Float) (root : ℕ) (limits 
       rw e (unvalidated-done pairs parents heights root limits b eb allowance v ev program g y turn pairs parents (scaled_turn turn.turned heights) f r er)
 
 pub ruleset scale_answer_laws = (scale-refused, scale-done)
-
--- a power scales
-pub scale-power : (a : Answer) (m : Moved) → a ≡ Answers.Moved m → (f : Float) (k : ℤ) → m.ratio ≡ Power f k → (hs₀ hs : List Float)
-    → hs ≡ (scaled_to (length hs₀) (heights_of hs₀) f (length hs₀)).heights → hs ≡ scaled_by a hs₀
-scale-power a m ea f k er hs₀ hs w = rw (ea, er) w

@@ -1,9 +1,10 @@
 // NodeHeight, RootScale and TreeScale of mcmc/moves.rs: the moves that change heights and nothing else of a tree. Each has the call of its name,
-// which refuses what is not in order, and an unvalidated one, which leaves the tree unchecked; both take whatever is lent. Assumes nothing.
+// which refuses what is not in order, and an unvalidated one, which leaves the tree unchecked; both take whatever is lent. Each unvalidated call has its
+// own checks and answer around its turn: of a turn handed on as a closure nothing is known of the heights that it borrowed. Assumes nothing.
 #![tactic(auto)]
 
 ghost use Rattle.std.specs.Prelude.{◌≡◌, ◌≤◌, length, T};
-ghost use Rattle.random.specs.Draw.{pick, run, drawn_number};
+ghost use Rattle.random.specs.Draw.{pick, run, drawn};
 ghost use Rattle.tree.specs.Tree.{nodes_of};
 ghost use Rattle.tree.specs.Valid.{Valid};
 ghost use Rattle.tree.specs.Given.{tree_of, kin_in};
@@ -18,12 +19,9 @@ ghost use Rattle.calls.specs.Harmless.{Turning};
 ghost use Rattle.heights.specs.Given.{heights_of, shaped, has_children, has_kin, scalable, stays, scaled_turn, scaled_by};
 
 use answer::{Answer, Ratio};
-use calls::{Answered, Height, Turn, Turned};
-use random::{DrawnNumber, Random, Supply};
-use tree::Verdict;
-
-// The nodes of the largest tree.
-const LARGEST: usize = 4095;
+use calls::{Answered, Turn, Turned};
+use random::{Random, Supply};
+use tree::Tree;
 
 // ---- what is in range: all that a move follows in an accepted tree. On other slices these tests keep every index inside.
 
@@ -35,40 +33,27 @@ fn is_shaped(pairs: &[u16], parents: &[u16], n: usize) -> bool
 }
 
 // Whether k and both its children have heights.
+#[tactic(auto, using(tree::specs::PlaceLaws::wide16, tree::specs::PlaceLaws::next_place), unfolding(crate::specs::Given::has_children))]
 fn has_children(pairs: &[u16], heights: &[f64], k: usize) -> bool
     ensures { result ≡ has_children pairs.now heights.now k }
 {
     let n = heights.len();
-    if k < n {
-        if k < pairs.len() / 2 {
-            let a = pairs[k + k] as usize;
-            let b = pairs[k + k + 1] as usize;
-            return a < n && b < n;
-        }
-        return false;
-    }
-    false
+    k < n && k < pairs.len() / 2 && (pairs[k + k] as usize) < n && (pairs[k + k + 1] as usize) < n
 }
 
 // Whether k, both its children and its parent have heights.
+#[tactic(auto, using(tree::specs::PlaceLaws::wide16), unfolding(crate::specs::Given::has_kin))]
 fn has_kin(pairs: &[u16], parents: &[u16], heights: &[f64], k: usize) -> bool
     ensures { result ≡ has_kin pairs.now parents.now heights.now k }
 {
-    if has_children(pairs, heights, k) {
-        if k < parents.len() {
-            let p = parents[k] as usize;
-            return p < heights.len();
-        }
-        return false;
-    }
-    false
+    has_children(pairs, heights, k) && k < parents.len() && (parents[k] as usize) < heights.len()
 }
 
 // Whether the root has a height, of no more than the largest tree has.
 fn is_scalable(heights: &[f64], root: usize) -> bool
     ensures { result ≡ scalable heights.now root }
 {
-    heights.len() <= LARGEST && root < heights.len()
+    heights.len() <= tree::MOST_NODES && root < heights.len()
 }
 
 // A turn without a move.
@@ -84,14 +69,16 @@ fn stay(s: Supply) -> Turn
 // ---- NodeHeight
 
 // An internal node of n other than the root.
-fn non_root_internal(s: Supply, n: usize, root: usize) -> DrawnNumber
-    ensures { result ≡ drawn_number s (pick (non_root_internal n root) s) }
+#[tactic(auto, using(crate::proofs::NodeHeightLaws::non_root_internal_laws))]
+fn non_root_internal(s: Supply, n: usize, root: usize) -> Option<(usize, Supply)>
+    ensures { result ≡ drawn (pick (non_root_internal n root) s) }
 {
     let half = n / 2;
     s.below_other(half, n - half, root)
 }
 
 // The height of the taller child of a node.
+#[tactic(auto, using(crate::proofs::RangeLaws::kin_laws, crate::proofs::NodeHeightLaws::floor_laws))]
 fn floor(pairs: &[u16], heights: &[f64], k: usize) -> f64
     requires { T (has_children pairs.now heights.now k) }
     ensures { result ≡ floor (kin_in pairs.now heights.now) k }
@@ -102,6 +89,7 @@ fn floor(pairs: &[u16], heights: &[f64], k: usize) -> f64
 }
 
 // Node k takes a height from its taller child's to its parent's, drawn from the supply `between`; s is the turn's.
+#[tactic(auto, using(crate::proofs::RangeLaws::kin_laws, crate::proofs::NodeHeightLaws::place_laws))]
 fn place(
     pairs: &[u16],
     parents: &[u16],
@@ -114,34 +102,29 @@ fn place(
     requires { T (has_kin pairs.now parents.now heights.old k) }
     ensures { after result pairs.now parents.now heights.new ≡ turn_of (tree_of pairs.now parents.now heights.old root) s (run (placing (tree_of pairs.now parents.now heights.old root) k) between) }
 {
-    let u = between.uniform();
-    let last = u.supply;
-    if u.ok {
-        let lower = floor(pairs, heights, k);
-        let p = parents[k] as usize;
-        match calls::interpolate(lower, heights[p], u.value) {
-            Height::At(x) => {
-                heights[k] = x;
-                return Turn {
-                    turned: Turned::Moved(root, Ratio::Even),
-                    supply: last,
-                };
-            }
-            Height::Outside => {
-                return Turn {
-                    turned: Turned::Outside(k),
-                    supply: last,
-                };
-            }
-        }
-    }
+    let Some((u, last)) = between.uniform() else {
+        return Turn {
+            turned: Turned::Spent,
+            supply: s,
+        };
+    };
+    let lower = floor(pairs, heights, k);
+    let p = parents[k] as usize;
+    let Some(x) = calls::interpolate(lower, heights[p], u) else {
+        return Turn {
+            turned: Turned::Outside(k),
+            supply: last,
+        };
+    };
+    heights[k] = x;
     Turn {
-        turned: Turned::Spent,
-        supply: s,
+        turned: Turned::Moved(root, Ratio::Even),
+        supply: last,
     }
 }
 
 // An internal node other than the root takes a height from its taller child's to its parent's.
+#[tactic(auto, using(crate::proofs::RangeLaws::kin_laws, crate::proofs::NodeHeightLaws::node_height_laws))]
 fn node_height_turn(
     pairs: &[u16],
     parents: &[u16],
@@ -152,27 +135,27 @@ fn node_height_turn(
     ensures { Turning (Valid (nodes_of pairs.now) (tree_of pairs.now parents.now heights.old root)) (turn_of (tree_of pairs.now parents.now heights.old root) s (run (Programs.node_height (tree_of pairs.now parents.now heights.old root)) s)) (tree_of pairs.now parents.now heights.old root) s (after result pairs.now parents.now heights.new) }
 {
     let n = heights.len();
-    if is_shaped(pairs, parents, n) {
-        if n / 2 < 2 {
-            return stay(s);
-        }
-        let d = non_root_internal(s, n, root);
-        let between = d.supply;
-        if d.ok {
-            if has_kin(pairs, parents, heights, d.value) {
-                return place(pairs, parents, heights, root, d.value, between, s);
-            }
-            return stay(s);
-        }
+    if !is_shaped(pairs, parents, n) {
+        return stay(s);
+    }
+    if n / 2 < 2 {
+        return stay(s);
+    }
+    let Some((k, between)) = non_root_internal(s, n, root) else {
         return Turn {
             turned: Turned::Spent,
             supply: s,
         };
+    };
+    if has_kin(pairs, parents, heights, k) {
+        place(pairs, parents, heights, root, k, between, s)
+    } else {
+        stay(s)
     }
-    stay(s)
 }
 
 // NodeHeight, by at most `allowance` draws, the tree being left unvalidated.
+#[tactic(auto, using(calls::proofs::EntryLaws::unvalidated_laws))]
 pub fn node_height_unvalidated(
     pairs: &[u16],
     parents: &[u16],
@@ -183,22 +166,19 @@ pub fn node_height_unvalidated(
 ) -> Answered
     ensures { UnvalidatedCall node_height (tree_of pairs.now parents.now heights.old root) random allowance (called result.answer result.random pairs.now parents.now heights.new) }
 {
-    match calls::check_limits(true, allowance) {
-        Verdict::Refused(why) => {
-            return calls::refuse(why, random);
-        }
-        Verdict::Fine => {
-            let s = Supply {
-                random,
-                left: allowance,
-            };
-            let turn = node_height_turn(pairs, parents, heights, root, s);
-            return calls::answer(turn, random, allowance);
-        }
+    if let Err(why) = calls::check_limits(true, allowance) {
+        return calls::refuse(why, random);
     }
+    let s = Supply {
+        random,
+        left: allowance,
+    };
+    let turn = node_height_turn(pairs, parents, heights, root, s);
+    calls::answer(turn, random, allowance)
 }
 
 // NodeHeight, by at most `allowance` draws.
+#[tactic(auto, using(calls::proofs::EntryLaws::entry_laws))]
 pub fn node_height(
     pairs: &[u16],
     parents: &[u16],
@@ -209,19 +189,22 @@ pub fn node_height(
 ) -> Answered
     ensures { called result.answer result.random pairs.now parents.now heights.new ≡ move_call node_height (tree_of pairs.now parents.now heights.old root) random allowance }
 {
-    match quick::validate(pairs, parents, heights, root) {
-        Verdict::Refused(why) => {
-            return calls::refuse(why, random);
-        }
-        Verdict::Fine => {
-            return node_height_unvalidated(pairs, parents, heights, root, random, allowance);
-        }
+    let tree = Tree {
+        pairs,
+        parents,
+        heights: &*heights,
+        root,
+    };
+    if let Err(why) = quick::validate(&tree) {
+        return calls::refuse(why, random);
     }
+    node_height_unvalidated(pairs, parents, heights, root, random, allowance)
 }
 
 // ---- RootScale
 
 // The root's height times a drawn factor; declined where that is under a child.
+#[tactic(auto, using(crate::proofs::RangeLaws::kin_laws, crate::proofs::RootScaleLaws::root_scale_laws))]
 fn root_scale_turn(
     pairs: &[u16],
     parents: &[u16],
@@ -232,36 +215,35 @@ fn root_scale_turn(
 ) -> Turn
     ensures { Turning (Valid (nodes_of pairs.now) (tree_of pairs.now parents.now heights.old root)) (turn_of (tree_of pairs.now parents.now heights.old root) s (run (Programs.root_scale tuning (tree_of pairs.now parents.now heights.old root)) s)) (tree_of pairs.now parents.now heights.old root) s (after result pairs.now parents.now heights.new) }
 {
-    let u = s.uniform();
-    let next = u.supply;
-    if u.ok {
-        if has_children(pairs, heights, root) {
-            let f = calls::scaler(tuning, u.value);
-            let x = heights[root] * f;
-            if real::is_finite(x) {
-                if x < floor(pairs, heights, root) {
-                    return stay(next);
-                }
-                heights[root] = x;
-                return Turn {
-                    turned: Turned::Moved(root, Ratio::Power(f, -1)),
-                    supply: next,
-                };
-            }
-            return Turn {
-                turned: Turned::NotFinite(root),
-                supply: next,
-            };
-        }
+    let Some((u, next)) = s.uniform() else {
+        return Turn {
+            turned: Turned::Spent,
+            supply: s,
+        };
+    };
+    if !has_children(pairs, heights, root) {
         return stay(next);
     }
+    let f = calls::scaler(tuning, u);
+    let x = heights[root] * f;
+    if !real::is_finite(x) {
+        return Turn {
+            turned: Turned::NotFinite(root),
+            supply: next,
+        };
+    }
+    if x < floor(pairs, heights, root) {
+        return stay(next);
+    }
+    heights[root] = x;
     Turn {
-        turned: Turned::Spent,
-        supply: s,
+        turned: Turned::Moved(root, Ratio::Power(f, -1)),
+        supply: next,
     }
 }
 
 // RootScale with a tuning from 1e-8 to 1, by at most `allowance` draws, the tree being left unvalidated.
+#[tactic(auto, using(calls::proofs::EntryLaws::unvalidated_laws))]
 pub fn root_scale_unvalidated(
     pairs: &[u16],
     parents: &[u16],
@@ -274,22 +256,19 @@ pub fn root_scale_unvalidated(
     ensures { UnvalidatedCall (root_scale tuning) (tree_of pairs.now parents.now heights.old root) random allowance (called result.answer result.random pairs.now parents.now heights.new) }
 {
     let limits = calls::is_tuned(tuning);
-    match calls::check_limits(limits, allowance) {
-        Verdict::Refused(why) => {
-            return calls::refuse(why, random);
-        }
-        Verdict::Fine => {
-            let s = Supply {
-                random,
-                left: allowance,
-            };
-            let turn = root_scale_turn(pairs, parents, heights, root, tuning, s);
-            return calls::answer(turn, random, allowance);
-        }
+    if let Err(why) = calls::check_limits(limits, allowance) {
+        return calls::refuse(why, random);
     }
+    let s = Supply {
+        random,
+        left: allowance,
+    };
+    let turn = root_scale_turn(pairs, parents, heights, root, tuning, s);
+    calls::answer(turn, random, allowance)
 }
 
 // RootScale with a tuning from 1e-8 to 1, by at most `allowance` draws.
+#[tactic(auto, using(calls::proofs::EntryLaws::entry_laws))]
 pub fn root_scale(
     pairs: &[u16],
     parents: &[u16],
@@ -301,46 +280,48 @@ pub fn root_scale(
 ) -> Answered
     ensures { called result.answer result.random pairs.now parents.now heights.new ≡ move_call (root_scale tuning) (tree_of pairs.now parents.now heights.old root) random allowance }
 {
-    match quick::validate(pairs, parents, heights, root) {
-        Verdict::Refused(why) => {
-            return calls::refuse(why, random);
-        }
-        Verdict::Fine => {
-            return root_scale_unvalidated(pairs, parents, heights, root, tuning, random, allowance);
-        }
+    let tree = Tree {
+        pairs,
+        parents,
+        heights: &*heights,
+        root,
+    };
+    if let Err(why) = quick::validate(&tree) {
+        return calls::refuse(why, random);
     }
+    root_scale_unvalidated(pairs, parents, heights, root, tuning, random, allowance)
 }
 
 // ---- TreeScale
 
 // The lowest internal node whose height times f is not finite, or the number of nodes where none is.
+#[tactic(auto, using(crate::proofs::TreeScaleLaws::lowest_laws))]
 fn lowest_overflow(heights: &[f64], f: f64) -> usize
     ensures { result ≡ least (overflows (length heights.now) (heights_of heights.now) f) (length heights.now) }
 {
-    let mut k = heights.len() / 2 + 1;
-    while k < heights.len() {
-        if real::is_finite(heights[k] * f) {
-            k += 1;
-        } else {
+    let n = heights.len();
+    for k in n / 2 + 1..n {
+        if !real::is_finite(heights[k] * f) {
             return k;
         }
     }
-    heights.len()
+    n
 }
 
 // Every internal height times f.
+#[tactic(auto, using(crate::proofs::TreeScaleLaws::scale_laws))]
 fn scale_heights(heights: &mut [f64], f: f64)
     ensures { heights.new ≡ (scaled_to (length heights.old) (heights_of heights.old) f (length heights.old)).heights }
 {
+    // By index: behind `iter_mut().skip(..)` nothing is known of what is written.
     let n = heights.len();
-    let mut k = n / 2 + 1;
-    while k < n {
-        heights[k] = heights[k] * f;
-        k += 1;
+    for k in n / 2 + 1..n {
+        heights[k] *= f;
     }
 }
 
 // The factor to the power of the internal nodes of n less 2.
+#[tactic(auto, using(crate::proofs::TreeScaleLaws::ratio_laws))]
 fn tree_scale_ratio(n: usize, f: f64) -> Ratio
     requires { n ≤ 4095 }
     ensures { result ≡ tree_scale_ratio n f }
@@ -350,6 +331,7 @@ fn tree_scale_ratio(n: usize, f: f64) -> Ratio
 
 // How TreeScale ends, no height being written yet: every internal height is to be multiplied by the factor of the ratio. No height is above the
 // root's, so that every product is finite where the root's is.
+#[tactic(auto, using(crate::proofs::TreeScaleLaws::tree_scale_laws))]
 fn tree_scale_turn(
     pairs: &[u16],
     parents: &[u16],
@@ -360,33 +342,32 @@ fn tree_scale_turn(
 ) -> Turn
     ensures { Turning (Valid (nodes_of pairs.now) (tree_of pairs.now parents.now heights.now root)) (turn_of (tree_of pairs.now parents.now heights.now root) s (run (Programs.tree_scale tuning (tree_of pairs.now parents.now heights.now root)) s)) (tree_of pairs.now parents.now heights.now root) s (after result pairs.now parents.now (scaled_turn result.turned heights.now)) }
 {
-    let u = s.uniform();
-    let next = u.supply;
-    if u.ok {
-        if is_scalable(heights, root) {
-            let f = calls::scaler(tuning, u.value);
-            if real::is_finite(heights[root] * f) {
-                let ratio = tree_scale_ratio(heights.len(), f);
-                return Turn {
-                    turned: Turned::Moved(root, ratio),
-                    supply: next,
-                };
-            }
-            return Turn {
-                turned: Turned::NotFinite(lowest_overflow(heights, f)),
-                supply: next,
-            };
-        }
+    let Some((u, next)) = s.uniform() else {
+        return Turn {
+            turned: Turned::Spent,
+            supply: s,
+        };
+    };
+    if !is_scalable(heights, root) {
         return stay(next);
     }
-    Turn {
-        turned: Turned::Spent,
-        supply: s,
+    let f = calls::scaler(tuning, u);
+    if real::is_finite(heights[root] * f) {
+        Turn {
+            turned: Turned::Moved(root, tree_scale_ratio(heights.len(), f)),
+            supply: next,
+        }
+    } else {
+        Turn {
+            turned: Turned::NotFinite(lowest_overflow(heights, f)),
+            supply: next,
+        }
     }
 }
 
 // What TreeScale answers with a tuning from 1e-8 to 1, by at most `allowance` draws, the tree being left unvalidated. The heights are as they came;
 // `scale_by` makes the move. A host's record is written between the two, so that it need not wait for the heights.
+#[tactic(auto, using(crate::proofs::TreeScaleLaws::scale_answer_laws))]
 pub fn tree_scale_answer(
     pairs: &[u16],
     parents: &[u16],
@@ -399,39 +380,25 @@ pub fn tree_scale_answer(
     ensures { UnvalidatedCall (tree_scale tuning) (tree_of pairs.now parents.now heights.now root) random allowance (called result.answer result.random pairs.now parents.now (scaled_by result.answer heights.now)) }
 {
     let limits = calls::is_tuned(tuning);
-    match calls::check_limits(limits, allowance) {
-        Verdict::Refused(why) => {
-            return calls::refuse(why, random);
-        }
-        Verdict::Fine => {
-            let s = Supply {
-                random,
-                left: allowance,
-            };
-            let turn = tree_scale_turn(pairs, parents, heights, root, tuning, s);
-            return calls::answer(turn, random, allowance);
-        }
+    if let Err(why) = calls::check_limits(limits, allowance) {
+        return calls::refuse(why, random);
     }
+    let s = Supply {
+        random,
+        left: allowance,
+    };
+    let turn = tree_scale_turn(pairs, parents, heights, root, tuning, s);
+    calls::answer(turn, random, allowance)
 }
 
 // The heights after what TreeScale answered: every internal one times the factor of its power.
 pub fn scale_by(heights: &mut [f64], answer: Answer)
     ensures { heights.new ≡ scaled_by answer heights.old }
 {
-    match answer {
-        Answer::Moved(m) => {
-            let ratio = m.ratio;
-            match ratio {
-                Ratio::Power(f, k) => {
-                    scale_heights(heights, f);
-                }
-                Ratio::Even => {}
-                Ratio::Counts(a, b) => {}
-                Ratio::Lengths(a, b) => {}
-            }
+    if let Answer::Moved(moved) = answer {
+        if let Ratio::Power(f, _) = moved.ratio {
+            scale_heights(heights, f);
         }
-        Answer::Declined(draws) => {}
-        Answer::Refused(why) => {}
     }
 }
 
@@ -448,12 +415,12 @@ pub fn tree_scale_unvalidated(
     ensures { UnvalidatedCall (tree_scale tuning) (tree_of pairs.now parents.now heights.old root) random allowance (called result.answer result.random pairs.now parents.now heights.new) }
 {
     let answered = tree_scale_answer(pairs, parents, heights, root, tuning, random, allowance);
-    let answer = answered.answer;
-    scale_by(heights, answer);
+    scale_by(heights, answered.answer);
     answered
 }
 
 // TreeScale with a tuning from 1e-8 to 1, by at most `allowance` draws.
+#[tactic(auto, using(calls::proofs::EntryLaws::entry_laws))]
 pub fn tree_scale(
     pairs: &[u16],
     parents: &[u16],
@@ -465,12 +432,14 @@ pub fn tree_scale(
 ) -> Answered
     ensures { called result.answer result.random pairs.now parents.now heights.new ≡ move_call (tree_scale tuning) (tree_of pairs.now parents.now heights.old root) random allowance }
 {
-    match quick::validate(pairs, parents, heights, root) {
-        Verdict::Refused(why) => {
-            return calls::refuse(why, random);
-        }
-        Verdict::Fine => {
-            return tree_scale_unvalidated(pairs, parents, heights, root, tuning, random, allowance);
-        }
+    let tree = Tree {
+        pairs,
+        parents,
+        heights: &*heights,
+        root,
+    };
+    if let Err(why) = quick::validate(&tree) {
+        return calls::refuse(why, random);
     }
+    tree_scale_unvalidated(pairs, parents, heights, root, tuning, random, allowance)
 }

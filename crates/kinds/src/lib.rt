@@ -4,8 +4,6 @@
 ghost use Rattle.std.specs.Prelude.{◌≡◌};
 ghost use Rattle.kinds.specs.Table.{row_of};
 
-use real::Optional;
-
 // All of rove's moves, ported or not, in the Rust's order.
 #[derive(Clone, Copy)]
 pub enum Move {
@@ -38,11 +36,11 @@ pub enum Move {
 
 impl Move {
     // The slide's size or a scale's factor to start with, for the moves that have one.
-    pub fn initial_tuning(self) -> Optional
+    pub fn initial_tuning(self) -> Option<f64>
         ensures { result ≡ (row_of self).tuning }
     {
         match self {
-            Move::SubtreeSlide => Optional::Given(1.0),
+            Move::SubtreeSlide => Some(1.0),
             Move::FbdBirthScale
             | Move::FbdDeathScale
             | Move::FbdSamplingScale
@@ -55,12 +53,12 @@ impl Move {
             | Move::RelativeDeathScale
             | Move::RootTimeRates
             | Move::BirthRateScale
-            | Move::MorphologyRateScale => Optional::Given(0.75),
+            | Move::MorphologyRateScale => Some(0.75),
             Move::GammaShapeScale
             | Move::ClockSigmaScale
             | Move::BranchRateScale
-            | Move::ClockSigmaRates => Optional::Given(0.5),
-            _ => Optional::Missing,
+            | Move::ClockSigmaRates => Some(0.5),
+            _ => None,
         }
     }
 
@@ -68,47 +66,47 @@ impl Move {
     pub fn changes_fbd(self) -> bool
         ensures { result ≡ (row_of self).fbd }
     {
-        match self {
+        matches!(
+            self,
             Move::FbdBirthScale
-            | Move::FbdDeathScale
-            | Move::FbdSamplingScale
-            | Move::FbdRhoLogit
-            | Move::FbdOriginScale => true,
-            _ => false,
-        }
+                | Move::FbdDeathScale
+                | Move::FbdSamplingScale
+                | Move::FbdRhoLogit
+                | Move::FbdOriginScale
+        )
     }
 
     // Whether it changes the tree, its heights or its shape.
     pub fn changes_tree(self) -> bool
         ensures { result ≡ (row_of self).tree }
     {
-        match self {
+        matches!(
+            self,
             Move::TipAge
-            | Move::NodeHeight
-            | Move::SubtreeSlide
-            | Move::NarrowExchange
-            | Move::WideExchange
-            | Move::WilsonBalding
-            | Move::RootScale
-            | Move::TreeScale
-            | Move::NodeTimeRates
-            | Move::RootTimeRates
-            | Move::NarrowExchangeRates => true,
-            _ => false,
-        }
+                | Move::NodeHeight
+                | Move::SubtreeSlide
+                | Move::NarrowExchange
+                | Move::WideExchange
+                | Move::WilsonBalding
+                | Move::RootScale
+                | Move::TreeScale
+                | Move::NodeTimeRates
+                | Move::RootTimeRates
+                | Move::NarrowExchangeRates
+        )
     }
 
     // Whether it changes the tree's shape.
     pub fn changes_topology(self) -> bool
         ensures { result ≡ (row_of self).topology }
     {
-        match self {
+        matches!(
+            self,
             Move::SubtreeSlide
-            | Move::NarrowExchange
-            | Move::WideExchange
-            | Move::WilsonBalding
-            | Move::NarrowExchangeRates => true,
-            _ => false,
-        }
+                | Move::NarrowExchange
+                | Move::WideExchange
+                | Move::WilsonBalding
+                | Move::NarrowExchangeRates
+        )
     }
 }

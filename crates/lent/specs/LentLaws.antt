@@ -2,7 +2,7 @@
 -- refusal, the generator as it was lent. Assumes nothing.
 use Rattle.std.proofs.Math.Path.{◌≡◌, ap}
 use Rattle.std.proofs.Common.{sym, arith}
-use Rattle.std.specs.Prelude.{Bool, ◌&&◌, ℕ}
+use Rattle.std.specs.Prelude.{Bool, ◌&&◌, ℕ, Result, Ok, Err}
 use Rattle.std.proofs.Math.Bool.{true, false, cond}
 use Rattle.answer.specs.declared.Refusal.{Refusal}
 use Rattle.answer.specs.declared.Refusal.TheVariants.{Parameter}
@@ -11,19 +11,16 @@ use Rattle.random.specs.Draw.{Drawn, spent, got, below, pick, countable, allowed
 use Rattle.random.specs.BelowCall.{turned_back, ended, below_call}
 use Rattle.random.proofs.BelowCallLaws.{below-drawn}
 use Rattle.random.specs.declared.Random.{Random}
-use Rattle.random.specs.declared.DrawnBelow.{DrawnBelow}
-use Rattle.random.specs.declared.Below.TheVariants as Answers
-use Rattle.lent.specs.Lent.{lent_below}
 
 module _ (g : Random) (n allowance : ℕ) (h : Random) where
-  pub below-advanced : (k draws : ℕ) → lent_below (Answers.Drawn k draws) h ≡ below_call g n allowance → h ≡ after draws g
+  pub below-advanced : (k draws : ℕ) → (Ok (k, draws), h) ≡ below_call g n allowance → h ≡ after draws g
   below-advanced k draws e = (below-drawn g n allowance k draws h (sym e)).moved
 
-  pub below-as-lent : (why : Refusal) → lent_below (Answers.Refused why) h ≡ below_call g n allowance → h ≡ g
+  pub below-as-lent : (why : Refusal) → (Err why, h) ≡ below_call g n allowance → h ≡ g
   unfolding below_call
   below-as-lent why = go (countable n && allowed allowance) (pick (below n) (supply_of g allowance))
     where
-      go : (b : Bool) (x : Drawn ℕ) → lent_below (Answers.Refused why) h ≡ cond b (ended g allowance x) (turned_back g (Parameter 0)) → h ≡ g
-      go true (got k s) e = let answers = ap (λ (r : DrawnBelow). r.answer) e in let z : ◌≡◌ {A = ℕ} 0 1 = cc in absurd (omega arith)
-      go true spent e = ap (λ (r : DrawnBelow). r.random) e
-      go false x e = ap (λ (r : DrawnBelow). r.random) e
+      go : (b : Bool) (x : Drawn ℕ) → (Err why, h) ≡ cond b (ended g allowance x) (turned_back g (Parameter 0)) → h ≡ g
+      go true (got k s) e = let answers = ap (λ (r : Result (ℕ × ℕ) Refusal × Random). r.0) e in let z : ◌≡◌ {A = ℕ} 0 1 = cc in absurd (omega arith)
+      go true spent e = ap (λ (r : Result (ℕ × ℕ) Refusal × Random). r.1) e
+      go false x e = ap (λ (r : Result (ℕ × ℕ) Refusal × Random). r.1) e

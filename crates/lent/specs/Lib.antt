@@ -1,3 +1,2 @@
--- The definitions that the contracts of lent cite, and the laws of these definitions.
-pub mod Lent
+-- The laws of what a caller finds of the generator that it lent.
 pub mod LentLaws

@@ -1,172 +1,149 @@
-// What the programs write: text, numbers in decimal, words and floats by their bits, what calls answer, and what a slice holds. Each function is
-// given where to write, and an error of the writer is its own. Assumes nothing.
+// How the programs print what calls take and answer: floats by their bits, the words of a generator, ratios, answers and refusals in the state
+// file's form, and what a slice holds. Assumes nothing.
 #![tactic(auto)]
 
 use answer::{Answer, Proposal, Ratio, Refusal};
-use real::Optional;
-use std::io;
-use std::io::Write;
-use tree::Verdict;
+use std::fmt;
+use std::fmt::Display;
 
-pub fn text(out: &mut impl Write, bytes: &[u8]) -> io::Result<()> {
-    out.write_all(bytes)
-}
+// A float by its bits, in 16 hexadecimal digits.
+#[derive(Clone, Copy)]
+pub struct Bits(pub f64);
 
-// Between a call and its answer.
-pub fn colon(out: &mut impl Write) -> io::Result<()> {
-    text(out, b": ")
-}
-
-pub fn end(out: &mut impl Write) -> io::Result<()> {
-    text(out, b"\n")
-}
-
-pub fn number(out: &mut impl Write, n: u64) -> io::Result<()> {
-    write!(out, "{n}")
-}
-
-// A word in 16 hexadecimal digits.
-fn hex(out: &mut impl Write, n: u64) -> io::Result<()> {
-    write!(out, "{n:016x}")
-}
-
-// The bits of a float, in the same way.
-pub fn bits(out: &mut impl Write, x: f64) -> io::Result<()> {
-    hex(out, real::to_bits(x))
-}
-
-// A float after a space.
-pub fn float(out: &mut impl Write, x: f64) -> io::Result<()> {
-    text(out, b" ")?;
-    bits(out, x)
-}
-
-// All floats of a slice.
-pub fn floats(out: &mut impl Write, of: &[f64]) -> io::Result<()> {
-    for x in of {
-        float(out, *x)?;
-    }
-    Ok(())
-}
-
-// A float after a space, or a dash where it is missing.
-pub fn optional(out: &mut impl Write, x: Optional) -> io::Result<()> {
-    match x {
-        Optional::Missing => text(out, b" -"),
-        Optional::Given(value) => float(out, value),
+impl Display for Bits {
+    fn fmt<W: fmt::Write>(&self, f: &mut fmt::Formatter<W>) -> fmt::Result {
+        let bits = real::to_bits(self.0);
+        write!(f, "{bits:016x}")
     }
 }
 
-// 1 after a space for what holds, else 0.
-pub fn flag(out: &mut impl Write, holds: bool) -> io::Result<()> {
-    if holds {
-        text(out, b" 1")
-    } else {
-        text(out, b" 0")
+// All floats of a slice, each after a space.
+#[derive(Clone, Copy)]
+pub struct Floats<'a>(pub &'a [f64]);
+
+impl Display for Floats<'_> {
+    fn fmt<W: fmt::Write>(&self, f: &mut fmt::Formatter<W>) -> fmt::Result {
+        for x in self.0 {
+            write!(f, " {}", Bits(*x))?;
+        }
+        Ok(())
     }
 }
 
 // The words of a generator, each in 16 hexadecimal digits.
-pub fn state(out: &mut impl Write, s: [u64; 4]) -> io::Result<()> {
-    let [a, b, c, d] = s;
-    write!(out, " state {a:016x},{b:016x},{c:016x},{d:016x}")
-}
+#[derive(Clone, Copy)]
+pub struct Words(pub [u64; 4]);
 
-pub fn draws(out: &mut impl Write, count: u32) -> io::Result<()> {
-    write!(out, " draws={count}")
-}
-
-// The exponent of a scale, which is -1 at the least.
-fn exponent(out: &mut impl Write, k: i32) -> io::Result<()> {
-    if k < 0 {
-        text(out, b"-1")
-    } else {
-        number(out, k as u64)
+impl Display for Words {
+    fn fmt<W: fmt::Write>(&self, f: &mut fmt::Formatter<W>) -> fmt::Result {
+        let [a, b, c, d] = self.0;
+        write!(f, "{a:016x},{b:016x},{c:016x},{d:016x}")
     }
 }
 
-// A key before a float's bits.
-fn keyed(out: &mut impl Write, key: &[u8], x: f64) -> io::Result<()> {
-    text(out, key)?;
-    bits(out, x)
-}
+// A value, or a text where it is missing.
+#[derive(Clone, Copy)]
+pub struct Or<'a, T>(pub Option<T>, pub &'a str);
 
-pub fn ratio(out: &mut impl Write, of: Ratio) -> io::Result<()> {
-    match of {
-        Ratio::Even => text(out, b" ratio=even"),
-        Ratio::Counts(a, b) => write!(out, " ratio=counts,{a},{b}"),
-        Ratio::Lengths(a, b) => {
-            keyed(out, b" ratio=lengths,", a)?;
-            keyed(out, b",", b)
-        }
-        Ratio::Power(f, k) => {
-            keyed(out, b" ratio=power,", f)?;
-            text(out, b",")?;
-            exponent(out, k)
+impl<T: Display> Display for Or<'_, T> {
+    fn fmt<W: fmt::Write>(&self, f: &mut fmt::Formatter<W>) -> fmt::Result {
+        match &self.0 {
+            Some(x) => write!(f, "{x}"),
+            None => write!(f, "{}", self.1),
         }
     }
 }
+
+// What a call says.
+#[derive(Clone, Copy)]
+pub struct Said<T>(pub T);
 
 // The refusal's number and detail.
-pub fn refused(out: &mut impl Write, why: Refusal) -> io::Result<()> {
-    write!(out, "refused,{},{}", why.number(), why.detail())
+impl Display for Said<Refusal> {
+    fn fmt<W: fmt::Write>(&self, f: &mut fmt::Formatter<W>) -> fmt::Result {
+        let why = self.0;
+        write!(f, "refused,{},{}", why.number(), why.detail())
+    }
+}
+
+// The value, or the refusal.
+impl<T: Display> Display for Said<Result<T, Refusal>> {
+    fn fmt<W: fmt::Write>(&self, f: &mut fmt::Formatter<W>) -> fmt::Result {
+        match &self.0 {
+            Ok(x) => write!(f, "{x}"),
+            Err(why) => write!(f, "{}", Said(*why)),
+        }
+    }
+}
+
+// Whether a call accepts what it was given.
+#[derive(Clone, Copy)]
+pub struct Verdict(pub Result<(), Refusal>);
+
+impl Display for Verdict {
+    fn fmt<W: fmt::Write>(&self, f: &mut fmt::Formatter<W>) -> fmt::Result {
+        match &self.0 {
+            Ok(()) => write!(f, "fine"),
+            Err(why) => write!(f, "{}", Said(*why)),
+        }
+    }
+}
+
+impl Display for Said<Ratio> {
+    fn fmt<W: fmt::Write>(&self, f: &mut fmt::Formatter<W>) -> fmt::Result {
+        match self.0 {
+            Ratio::Even => write!(f, "even"),
+            Ratio::Counts(a, b) => write!(f, "counts,{a},{b}"),
+            Ratio::Lengths(a, b) => write!(f, "lengths,{},{}", Bits(a), Bits(b)),
+            Ratio::Power(x, k) => write!(f, "power,{},{k}", Bits(x)),
+        }
+    }
 }
 
 // What a tree move answers.
-pub fn answer(out: &mut impl Write, of: Answer) -> io::Result<()> {
-    match of {
-        Answer::Moved(moved) => {
-            text(out, b"moved")?;
-            draws(out, moved.draws)?;
-            ratio(out, moved.ratio)?;
-            write!(out, " root={}", moved.root)
+impl Display for Said<Answer> {
+    fn fmt<W: fmt::Write>(&self, f: &mut fmt::Formatter<W>) -> fmt::Result {
+        match self.0 {
+            Answer::Moved(moved) => {
+                write!(
+                    f,
+                    "moved draws={} ratio={} root={}",
+                    moved.draws,
+                    Said(moved.ratio),
+                    moved.root
+                )
+            }
+            Answer::Declined(draws) => write!(f, "declined draws={draws}"),
+            Answer::Refused(why) => write!(f, "{}", Said(why)),
         }
-        Answer::Declined(count) => declined(out, count),
-        Answer::Refused(why) => refused(out, why),
     }
 }
 
 // What a call on parameters answers.
-pub fn proposal(out: &mut impl Write, of: Proposal) -> io::Result<()> {
-    match of {
-        Proposal::Scaled(count, odds) => {
-            text(out, b"scaled")?;
-            draws(out, count)?;
-            ratio(out, odds)
+impl Display for Said<Proposal> {
+    fn fmt<W: fmt::Write>(&self, f: &mut fmt::Formatter<W>) -> fmt::Result {
+        match self.0 {
+            Proposal::Scaled(draws, ratio) => {
+                write!(f, "scaled draws={draws} ratio={}", Said(ratio))
+            }
+            Proposal::Declined(draws) => write!(f, "declined draws={draws}"),
+            Proposal::Refused(why) => write!(f, "{}", Said(why)),
         }
-        Proposal::Declined(count) => declined(out, count),
-        Proposal::Refused(why) => refused(out, why),
     }
 }
 
-fn declined(out: &mut impl Write, count: u32) -> io::Result<()> {
-    text(out, b"declined")?;
-    draws(out, count)
-}
+// The first nine nodes of a slice, each after a space, with a dash for 65,535, which is none.
+#[derive(Clone, Copy)]
+pub struct Marks<'a>(pub &'a [u16]);
 
-pub fn verdict(out: &mut impl Write, of: Verdict) -> io::Result<()> {
-    match of {
-        Verdict::Fine => text(out, b"fine"),
-        Verdict::Refused(why) => refused(out, why),
+impl Display for Marks<'_> {
+    fn fmt<W: fmt::Write>(&self, f: &mut fmt::Formatter<W>) -> fmt::Result {
+        for k in self.0.iter().take(9) {
+            write!(f, " {}", Or(Some(*k).filter(|k| *k != 65535), "-"))?;
+        }
+        if self.0.len() > 9 {
+            write!(f, " ...")?;
+        }
+        Ok(())
     }
-}
-
-// A node, or a dash for 65,535, which is none.
-fn mark(out: &mut impl Write, k: u16) -> io::Result<()> {
-    if k == 65535 {
-        text(out, b" -")
-    } else {
-        write!(out, " {k}")
-    }
-}
-
-// The first nine of a slice.
-pub fn marks(out: &mut impl Write, of: &[u16]) -> io::Result<()> {
-    for k in of.iter().take(9) {
-        mark(out, *k)?;
-    }
-    if of.len() > 9 {
-        text(out, b" ...")?;
-    }
-    Ok(())
 }

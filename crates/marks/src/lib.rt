@@ -2,98 +2,50 @@
 #![tactic(auto)]
 
 ghost use Rattle.std.specs.Prelude.{◌≡◌, length};
-ghost use Rattle.tree.specs.Given.{tree_of};
 ghost use Rattle.clades.specs.Clades.{monophyly_call, age_call};
 ghost use Rattle.marks.specs.Marks.{marks_of};
 
 use answer::Refusal;
-use clades::{Age, Monophyly};
+use tree::{MOST_NODES, Tree};
 
 // The most tips of a tree.
-const MOST: usize = 2048;
-
-// Places for the marks of the most tips.
-fn no_marks() -> [bool; 2048]
-    ensures { length result ≡ 2048 }
-{
-    [false; 2048]
-}
+const MOST_TIPS: usize = (MOST_NODES + 1) / 2;
 
 // Each byte becomes a mark.
+#[tactic(auto, unfolding(crate::specs::Marks::marks_of))]
 fn put_marks(members: &[u8], marks: &mut [bool])
     requires { length marks.old ≡ length members.now }
     ensures { marks.new ≡ marks_of members.now }
 {
-    let mut tip = 0;
-    while tip < members.len() {
-        marks[tip] = members[tip] != 0;
-        tip += 1;
+    for (tip, member) in members.iter().enumerate() {
+        marks[tip] = *member != 0;
     }
-}
-
-// The two calls with a place for the marks.
-fn monophyletic_with(
-    pairs: &[u16],
-    parents: &[u16],
-    heights: &[f64],
-    root: usize,
-    members: &[u8],
-    marks: &mut [bool],
-) -> Monophyly
-    requires { length marks.old ≡ length members.now }
-    ensures { result ≡ monophyly_call (tree_of pairs.now parents.now heights.now root) (marks_of members.now) }
-{
-    put_marks(members, marks);
-    clades::is_monophyletic_in(pairs, parents, heights, root, marks)
-}
-
-fn age_with(
-    pairs: &[u16],
-    parents: &[u16],
-    heights: &[f64],
-    root: usize,
-    members: &[u8],
-    marks: &mut [bool],
-) -> Age
-    requires { length marks.old ≡ length members.now }
-    ensures { result ≡ age_call (tree_of pairs.now parents.now heights.now root) (marks_of members.now) }
-{
-    put_marks(members, marks);
-    clades::clade_age(pairs, parents, heights, root, marks)
 }
 
 // Whether some node of a tree has exactly the tips of the set below it. More bytes than a tree has tips are not one for each.
-pub fn is_monophyletic(
-    pairs: &[u16],
-    parents: &[u16],
-    heights: &[f64],
-    root: usize,
-    members: &[u8],
-) -> Monophyly
-    ensures { result ≡ monophyly_call (tree_of pairs.now parents.now heights.now root) (marks_of members.now) }
+#[tactic(auto, using(crate::proofs::MarkLaws::call_laws))]
+pub fn is_monophyletic(tree: &Tree<'_>, members: &[u8]) -> Result<bool, Refusal>
+    ensures { result ≡ monophyly_call tree.now (marks_of members.now) }
 {
-    let tips = members.len();
-    if MOST < tips {
-        return Monophyly::Refused(Refusal::Size(pairs.len() / 2));
+    if MOST_TIPS < members.len() {
+        return Err(Refusal::Size(tree.pairs.len() / 2));
     }
-    let mut marks = no_marks();
-    monophyletic_with(pairs, parents, heights, root, members, &mut marks[..tips])
+    let mut places = [false; MOST_TIPS];
+    let marks = &mut places[..members.len()];
+    put_marks(members, marks);
+    clades::is_monophyletic_in(tree, marks)
 }
 
 // The age of the first node in postorder over all tips of the set.
-pub fn clade_age(
-    pairs: &[u16],
-    parents: &[u16],
-    heights: &[f64],
-    root: usize,
-    members: &[u8],
-) -> Age
-    ensures { result ≡ age_call (tree_of pairs.now parents.now heights.now root) (marks_of members.now) }
+#[tactic(auto, using(crate::proofs::MarkLaws::call_laws))]
+pub fn clade_age(tree: &Tree<'_>, members: &[u8]) -> Result<u64, Refusal>
+    ensures { result ≡ age_call tree.now (marks_of members.now) }
 {
-    let tips = members.len();
-    if MOST < tips {
-        return Age::Refused(Refusal::Size(pairs.len() / 2));
+    if MOST_TIPS < members.len() {
+        return Err(Refusal::Size(tree.pairs.len() / 2));
     }
-    let mut marks = no_marks();
-    age_with(pairs, parents, heights, root, members, &mut marks[..tips])
+    let mut places = [false; MOST_TIPS];
+    let marks = &mut places[..members.len()];
+    put_marks(members, marks);
+    clades::clade_age(tree, marks)
 }

@@ -4,7 +4,7 @@
 -- allowances (`larger`, `draws-made`, `enough`); demand 3 for what runs (`reversible`); and that a call leaves an accepted tree (`settled`, `kept`, `stays-settled`,
 -- `stays-accepted`), tips at the present where they were (`stays-present`), and so does any number of calls (`run-accepted`, `run-present`). Assumes
 -- nothing.
-use Rattle.std.specs.Prelude.{◌≡◌, refl, true, List, [], ◌∷◌, ℕ, ◌≤◌, T}
+use Rattle.std.specs.Prelude.{◌≡◌, refl, true, List, [], ◌∷◌, ℕ, ◌≤◌, T, Ok}
 use Rattle.std.proofs.Common.{sym, subst, arith}
 use Rattle.std.specs.Float.Ieee.Fits.{and_l, and_r}
 use Rattle.answer.specs.declared.Refusal.{Refusal}
@@ -17,7 +17,6 @@ use Rattle.answer.specs.Answers.{draws_of}
 use Rattle.random.specs.declared.Random.{Random}
 use Rattle.random.specs.Generator.{after}
 use Rattle.random.specs.Draw.{supply_of, allowed}
-use Rattle.tree.specs.declared.Verdict.TheVariants as Verdicts
 use Rattle.tree.specs.Tree.{Tree, nodes_of}
 use Rattle.tree.specs.New.{Accepted}
 use Rattle.tree.specs.Valid.{Strict}
@@ -41,7 +40,7 @@ use Rattle.moves.specs.EndsLaws.{run_ends, left_so}
 use Rattle.moves.specs.ScaleLaws.{root-scales-kept, tree-scales-nodes, tree-scales-kept, tree-scales-present}
 
 -- the checks of a call on an accepted tree, with parameters within their limits
-fine : (m : Move) (t : Tree) → Accepted t → limits m t ≡ true → (a : ℕ) → allowed a ≡ true → checked (limits m t) t a ≡ Verdicts.Fine
+fine : (m : Move) (t : Tree) → Accepted t → limits m t ≡ true → (a : ℕ) → allowed a ≡ true → checked (limits m t) t a ≡ (Ok tt)
 unfolding checked
 fine m t v l a h = rw (valid-fine (nodes_of t.pairs) t (accepted-valid t v), l, h)
 

@@ -16,7 +16,7 @@ use Rattle.tree.specs.Valid.{Valid}
 use Rattle.tree.specs.ScanLaws.{neqb→ne}
 use Rattle.rules.specs.Rules as Rules
 use Rattle.rules.specs.Rules.{one_internal, floor, within}
-use Rattle.calls.specs.Call.{Reply, makes, not_finite, outside, Outcome, declined, moved}
+use Rattle.calls.specs.Call.{Reply, makes, not_finite, Outcome, declined, moved}
 use Rattle.moves.specs.Programs as Programs
 use Rattle.calls.specs.Draws.{non_root, internal, least}
 use Rattle.moves.specs.Programs.{slidable, slide_height, overflows, wilsons}

@@ -1,4 +1,4 @@
 -- The theorems on the calls of the tree moves, and the laws that lead to them.
-mod ExplainedLaws
+pub mod ExplainedLaws
 pub mod Demands
-mod ChainLaws
+pub mod ChainLaws

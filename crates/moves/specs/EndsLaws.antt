@@ -1,6 +1,6 @@
 -- That a call that passed its checks ends as Ends says, whatever its program (`run_ends`); and that what a call leaves is what it made, or the tree as it
 -- came (`left_so`). Assumes nothing.
-use Rattle.std.specs.Prelude.{◌≡◌, refl, ◌⊎◌, ℕ}
+use Rattle.std.specs.Prelude.{◌≡◌, refl, ◌⊎◌, ℕ, Result, Ok}
 use Rattle.std.proofs.Common.{sym, subst, inl, inr, arith}
 use Rattle.answer.specs.declared.Refusal.{Refusal}
 use Rattle.answer.specs.declared.Refusal.TheVariants as Refusals
@@ -10,15 +10,13 @@ use Rattle.answer.specs.declared.Answer.TheVariants as Answers
 use Rattle.random.specs.declared.Random.{Random}
 use Rattle.random.specs.Generator.{after}
 use Rattle.random.specs.Draw.{Draw}
-use Rattle.tree.specs.declared.Verdict.{Verdict}
-use Rattle.tree.specs.declared.Verdict.TheVariants as Verdicts
 use Rattle.tree.specs.Tree.{Tree}
 use Rattle.calls.specs.Call.{Reply, Ending, refused, given, run_call, Outcome, declined, moved, Called, called_on, leaves}
 use Rattle.calls.proofs.RunLaws.{run-refused}
 use Rattle.moves.specs.Ends.{tree_after, Ends, moves, declines, refuses, root_after, tree_left}
 
 -- a call that passed its checks ends as moved, as declined, or in refusal 6, 7 or 8
-pub run_ends : (t : Tree) (program : Draw (Reply Outcome)) (g : Random) (v : Verdict) → v ≡ Verdicts.Fine → (a : ℕ) → Ends (leaves t g (run_call v program g a)).answer
+pub run_ends : (t : Tree) (program : Draw (Reply Outcome)) (g : Random) (v : Result (Unit {0}) Refusal) → v ≡ (Ok tt) → (a : ℕ) → Ends (leaves t g (run_call v program g a)).answer
 unfolding leaves
 run_ends t program g v y a = go (run_call v program g a) refl
   where

@@ -1,5 +1,5 @@
 -- What a slide's first call gives: a node that its second call may be given, and two uniforms (`started`), with as many draws as the generator is
--- stepped (calls/CallLaws `call-steps`); that past its checks it gives these, or a 6 (`start-ends`); and that on an accepted tree it is the unvalidated
+-- stepped (calls/proofs/TreeCallLaws `call-steps`); that past its checks it gives these, or a 6 (`start-ends`); and that on an accepted tree it is the unvalidated
 -- one (`accepted-start`). Assumes nothing.
 use Rattle.std.specs.Prelude.{◌≡◌, refl, ◌⊎◌, true, ℕ, ◌-◌}
 use Rattle.std.proofs.Common.{inl, inr}

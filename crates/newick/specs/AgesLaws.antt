@@ -1,12 +1,10 @@
 -- Laws of the printed ages of a tree's heights: each is its height's (`aged-at`), all are printed where every height is below 2^43 (`all-aged`), and of a
 -- valid tree each is below 2^43 (`age-few`), and a parent never prints younger than its child (`ages-order`, `ages-ordered`). Assumes nothing.
-use Rattle.std.specs.Prelude.{◌≡◌, refl, ◌≢◌, Bool, true, false, cond, ◌&&◌, not, List, [], ◌∷◌, ℕ, zero, suc, ◌*◌, ◌^◌, ◌≤◌, ◌<◌, T, length, get_or, Float}
+use Rattle.std.specs.Prelude.{◌≡◌, refl, ◌≢◌, Bool, true, false, cond, ◌&&◌, not, List, [], ◌∷◌, ℕ, zero, suc, ◌*◌, ◌^◌, ◌≤◌, ◌<◌, T, length, get_or, Float, Option, Some, None}
 use Rattle.std.proofs.Common.{sym, ap, ◌∙◌, subst, arith}
 use Rattle.std.specs.Float.{nan}
 use Rattle.std.specs.Float.Ieee.{lt}
 use Rattle.real.specs.Real as Real
-use Rattle.real.specs.declared.Printed.{Printed}
-use Rattle.real.specs.declared.Printed.TheVariants.{Thousandths, Outside}
 use Rattle.real.specs.Printed.{print_limit, thousandths_of, printed_of}
 use Rattle.real.specs.PrintedLaws.{printed-few, printed-order}
 use Rattle.tree.specs.Tree.{Tree, first, second, parent, height}
@@ -26,21 +24,21 @@ aged-same l m e = cc
 -- one age for each height, in its order
 record Ages (xs : List Float) (l : List ℕ) : Type 0 where
   long : length l ≡ length xs
-  each : (k : ℕ) → k < length xs → printed_of (get_or xs k nan) ≡ Thousandths (get_or l k 0)
+  each : (k : ℕ) → k < length xs → printed_of (get_or xs k nan) ≡ Some (get_or l k 0)
 
 aged-at : (xs : List Float) (l : List ℕ) → ages_of xs ≡ aged l → Ages xs l
 unfolding ages_of
 aged-at [] l e = record { long = ap length (sym (aged-same [] l e)); each = λ k K. absurd (omega arith) }
 aged-at (x ∷ xs) l e = go (printed_of x) refl (ages_of xs) refl (aged-at xs) e
   where
-    go : (p : Printed) → printed_of x ≡ p → (r : Aged) → ages_of xs ≡ r → ((m : List ℕ) → ages_of xs ≡ aged m → Ages xs m)
+    go : (p : Option ℕ) → printed_of x ≡ p → (r : Aged) → ages_of xs ≡ r → ((m : List ℕ) → ages_of xs ≡ aged m → Ages xs m)
         → and_aged p r ≡ aged l → Ages (x ∷ xs) l
-    go Outside q r f rest e = absurd (old-clash l e)
-    go (Thousandths c) q too_old f rest e = absurd (old-clash l e)
-    go (Thousandths c) q (aged m) f rest e =
+    go None q r f rest e = absurd (old-clash l e)
+    go (Some c) q too_old f rest e = absurd (old-clash l e)
+    go (Some c) q (aged m) f rest e =
         subst (Ages (x ∷ xs)) (aged-same (c ∷ m) l e) (record { long = ap suc (rest m f).long; each = at (rest m f) })
       where
-        at : Ages xs m → (k : ℕ) → k < suc (length xs) → printed_of (get_or (x ∷ xs) k nan) ≡ Thousandths (get_or (c ∷ m) k 0)
+        at : Ages xs m → (k : ℕ) → k < suc (length xs) → printed_of (get_or (x ∷ xs) k nan) ≡ Some (get_or (c ∷ m) k 0)
         at i zero K = q
         at i (suc k) K = i.each k (omega arith)
 
@@ -55,7 +53,7 @@ all-aged (x ∷ xs) h =
     (thousandths_of x ∷ r.0, ap (and_aged (printed_of x)) r.1 ∙ go (lt x Real.zero) (lt x print_limit) z.0 z.1 r.0)
   where
     go : (a b : Bool) → T (not a) → T b → (l : List ℕ)
-        → and_aged (cond (not a && b) (Thousandths (thousandths_of x)) Outside) (aged l) ≡ aged (thousandths_of x ∷ l)
+        → and_aged (cond (not a && b) (Some (thousandths_of x)) None) (aged l) ≡ aged (thousandths_of x ∷ l)
     go false true p q l = refl
     go true b p q l = absurd p
     go false false p q l = absurd q
@@ -63,7 +61,7 @@ all-aged (x ∷ xs) h =
 -- ---- of a valid tree
 
 module _ (n : ℕ) (t : Tree) (v : Valid n t) (l : List ℕ) (P : ages_of t.heights ≡ aged l) where
-  age-printed : (k : ℕ) → k < n → printed_of (height t k) ≡ Thousandths (get_or l k 0)
+  age-printed : (k : ℕ) → k < n → printed_of (height t k) ≡ Some (get_or l k 0)
   unfolding height
   age-printed k K = (aged-at t.heights l P).each k (let h = v.sized.heights in omega arith)
 

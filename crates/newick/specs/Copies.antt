@@ -1,20 +1,17 @@
 -- The Newick text of a tree, and what the writer and the reader leave, by change request S-1. Definitions only. Assumes nothing.
-use Rattle.std.specs.Prelude.{◌≡◌, Bool, true, false, cond, ◌&&◌, List, [], ◌∷◌, ◌++◌, ℕ, zero, suc, ◌+◌, ◌-◌, ltb, leb, length, get_or, drop, Float}
+use Rattle.std.specs.Prelude.{◌≡◌, Bool, true, false, cond, ◌&&◌, List, [], ◌∷◌, ◌++◌, ℕ, zero, suc, ◌+◌, ◌-◌, ltb, leb, length, get_or, drop, Float, Option, Some, None, Result, Ok, Err}
 use Rattle.answer.specs.declared.Refusal.TheVariants.{Parameter}
-use Rattle.real.specs.declared.Printed.{Printed}
-use Rattle.real.specs.declared.Printed.TheVariants as Printings
 use Rattle.real.specs.Printed.{printed_of}
-use Rattle.tree.specs.declared.Verdict.{Verdict}
-use Rattle.tree.specs.declared.Verdict.TheVariants as Verdicts
 use Rattle.tree.specs.Tree.{Tree, nodes_of, tips_of, inner, first_in, second_in, postorder}
 use Rattle.tree.specs.New.{validated}
-use Rattle.newick.specs.declared.Copied.{Copied}
-use Rattle.newick.specs.declared.Copied.TheVariants as Copieds
-use Rattle.newick.specs.declared.Taken.{Taken}
-use Rattle.newick.specs.declared.Taken.TheVariants as Takens
 use Rattle.newick.specs.Newick.{Newick, tip, join, whole_text}
 use Rattle.newick.specs.Numbering.{nodes_in, pairs_read, ages_read}
 use Rattle.newick.specs.Reading.{Reading, faulty, says, reading}
+use Rattle.answer.specs.declared.Refusal.{Refusal}
+use Rattle.newick.specs.declared.CopyError.TheVariants as CopyErrors
+use Rattle.newick.specs.declared.ReadError.{ReadError}
+use Rattle.newick.specs.declared.ReadError.TheVariants as ReadErrors
+use Rattle.newick.specs.declared.CopyError.{CopyError}
 
 -- ---- printed ages
 
@@ -23,10 +20,10 @@ pub data Aged : Type 0 where
   too_old : Aged
   aged : List ℕ → Aged
 
-abbrev pub and_aged : Printed → Aged → Aged
-and_aged Printings.Outside r = too_old
-and_aged (Printings.Thousandths x) too_old = too_old
-and_aged (Printings.Thousandths x) (aged l) = aged (x ∷ l)
+abbrev pub and_aged : Option ℕ → Aged → Aged
+and_aged None r = too_old
+and_aged (Some x) too_old = too_old
+and_aged (Some x) (aged l) = aged (x ∷ l)
 
 -- "Ages print as document 01 has it"
 unfoldable pub ages_of : List Float → Aged
@@ -58,24 +55,24 @@ tree_text pairs root ages = whole_text (newick_of pairs root ages)
 
 -- what it answers, and the lent slice
 pub record CopyCall : Type 0 where
-  pub answer : Copied
+  pub answer : Result ℕ CopyError
   pub out : List ℕ
 
-abbrev pub copied : Copied → List ℕ → CopyCall
+abbrev pub copied : Result ℕ CopyError → List ℕ → CopyCall
 copied answer out = record { answer = answer; out = out }
 
 -- the text at the start of the slice, the rest being as it was; "refuse with 10 when a lent slice is too short for the result"
 unfoldable pub placed : List ℕ → List ℕ → CopyCall
-placed out s = cond (ltb (length out) (length s)) (copied Copieds.Room out) (copied (Copieds.Bytes (length s)) (s ++ drop (length s) out))
+placed out s = cond (ltb (length out) (length s)) (copied (Err CopyErrors.Room) out) (copied (Ok (length s)) (s ++ drop (length s) out))
 
 -- "An age of 2^43 or more is a 5"
 abbrev pub copy_aged : Tree → List ℕ → Aged → CopyCall
-copy_aged t out too_old = copied (Copieds.Refused (Parameter 0)) out
+copy_aged t out too_old = copied (Err (CopyErrors.Refused (Parameter 0))) out
 copy_aged t out (aged ages) = placed out (tree_text t.pairs t.root ages)
 
-abbrev pub copy_judged : Tree → List ℕ → Verdict → CopyCall
-copy_judged t out (Verdicts.Refused why) = copied (Copieds.Refused why) out
-copy_judged t out Verdicts.Fine = copy_aged t out (ages_of t.heights)
+abbrev pub copy_judged : Tree → List ℕ → Result (Unit {0}) Refusal → CopyCall
+copy_judged t out (Err why) = copied (Err (CopyErrors.Refused why)) out
+copy_judged t out (Ok tt) = copy_aged t out (ages_of t.heights)
 
 -- "Write an accepted tree into a lent buffer": 10 comes "after 1 to 5 in the writer"
 unfoldable pub copy_call : Tree → List ℕ → CopyCall
@@ -85,21 +82,21 @@ copy_call t out = copy_judged t out (validated t)
 
 -- what it answers, and the lent slices
 pub record ReadCall : Type 0 where
-  pub answer : Taken
+  pub answer : Result ℕ ReadError
   pub pairs : List ℕ
   pub ages : List ℕ
 
-abbrev pub taken : Taken → List ℕ → List ℕ → ReadCall
+abbrev pub taken : Result ℕ ReadError → List ℕ → List ℕ → ReadCall
 taken answer pairs ages = record { answer = answer; pairs = pairs; ages = ages }
 
 -- "with 9 when the text to be read is not of this form"; 10 comes "after 9 in the reader"
 abbrev pub read_said : List ℕ → List ℕ → Reading → ReadCall
-read_said pairs ages (faulty place) = taken (Takens.Place place) pairs ages
+read_said pairs ages (faulty place) = taken (Err (ReadErrors.Place place)) pairs ages
 read_said pairs ages (says t) =
     let n = nodes_in t in
     cond (leb (n + n) (length pairs) && leb n (length ages))
-    (taken (Takens.Nodes n) (pairs_read t ++ drop (n + n) pairs) (ages_read t ++ drop n ages))
-    (taken Takens.Room pairs ages)
+    (taken (Ok n) (pairs_read t ++ drop (n + n) pairs) (ages_read t ++ drop n ages))
+    (taken (Err ReadErrors.Room) pairs ages)
 
 unfoldable pub read_call : List ℕ → List ℕ → List ℕ → ReadCall
 read_call s pairs ages = read_said pairs ages (reading s)

@@ -2,7 +2,7 @@
 -- written (`copy_written`), and where it is numbered in closing order it comes back with its own pairs and with its printed ages above the youngest tip's
 -- (`own`, `own-ages`); heights below 2^43 all print (`ages-printed`). Of a text that is read: written again it is the text (`read_again`), one tip has age 0
 -- (`youngest`), and every age is below 2^53 (`ages-below`). Of one that is not: the place of the fault (`place`). Assumes nothing.
-use Rattle.std.specs.Prelude.{◌≡◌, refl, ◌⊎◌, Bool, true, false, cond, List, [], ◌∷◌, ◌++◌, ℕ, ◌+◌, ◌-◌, ◌^◌, ◌≤◌, ◌<◌, T, ltb, length, get_or, drop, replicate}
+use Rattle.std.specs.Prelude.{◌≡◌, refl, ◌⊎◌, Bool, true, false, cond, List, [], ◌∷◌, ◌++◌, ℕ, ◌+◌, ◌-◌, ◌^◌, ◌≤◌, ◌<◌, T, ltb, length, get_or, drop, replicate, Ok}
 use Rattle.std.proofs.Common.{sym, ap, ◌∙◌, subst, inl, inr, le_refl, length-append}
 use Rattle.std.proofs.Math.Decide.{dec_lt}
 use native.Mathlib.Omega.{arith}
@@ -16,7 +16,6 @@ use Rattle.tree.specs.BoundedLaws.{every_true}
 use Rattle.accepted.specs.Ways.{Under, itself, through}
 use Rattle.accepted.specs.WayLaws.{valid-nodes}
 use Rattle.accepted.specs.ValidatedLaws.{valid-fine}
-use Rattle.newick.specs.declared.Copied.TheVariants.{Bytes}
 use Rattle.newick.specs.Newick.{Newick, join, whole_text, Frame, Mode, start, sub, name, made, colon, whole, point, tenths, hundredths, branch, done}
 use Rattle.newick.specs.Newick.{Run, forbidden, reached, run}
 use Rattle.newick.specs.Numbering.{joins, tips_in, nodes_in, times, node_of, pairs_read, reach, ages_read}
@@ -76,7 +75,7 @@ module _ (n : ℕ) (t : Tree) (v : Valid n t) (ages : List ℕ) (P : ages_of t.h
   -- and it is written wherever it fits
   pub copy_written : (out : List ℕ) → length (tree_text t.pairs t.root ages) ≤ length out
       → copy_call t out
-      ≡ copied (Bytes (length (tree_text t.pairs t.root ages)))
+      ≡ copied (Ok (length (tree_text t.pairs t.root ages)))
       (tree_text t.pairs t.root ages ++ drop (length (tree_text t.pairs t.root ages)) out)
   unfolding copy_call placed
   copy_written out h = rw (valid-fine n t v, P, le-ltb (length out) (length (tree_text t.pairs t.root ages)) h)

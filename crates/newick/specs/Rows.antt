@@ -1,6 +1,6 @@
 -- Copies and readings as rows of three statements on the definitions: what the writer leaves (`copy-rows`), what texts say and the reader leaves (`read-rows`), and
 -- the places of faults (`place-rows`). Assumes nothing.
-use Rattle.std.specs.Prelude.{◌≡◌, refl, List, [], ◌∷◌, ◌++◌, ℕ, replicate, Float}
+use Rattle.std.specs.Prelude.{◌≡◌, refl, List, [], ◌∷◌, ◌++◌, ℕ, replicate, Float, Ok, Err}
 use Prim.Native.String.{String}
 use Rattle.std.specs.Float.{binary64}
 use Rattle.std.specs.Float.Ieee.{of_bits, lt, le, eq}
@@ -11,12 +11,12 @@ use Rattle.tree.specs.Tree.{Tree, no_node, parent, height, subtree}
 use Rattle.tree.specs.Bounded.{every}
 use Rattle.tree.specs.New.{validated, judged, scanned, scan, visit, then_adopt, adopt, joined, roots, agree, misdated, lowest}
 use Rattle.text.specs.Text.{bytes, digit, decimal_in}
-use Rattle.newick.specs.declared.Copied.TheVariants as Copieds
-use Rattle.newick.specs.declared.Taken.TheVariants as Takens
 use Rattle.newick.specs.Newick.{tip, join, number_text, text, whole_text, step, run}
 use Rattle.newick.specs.Numbering.{joins, times, node_of, pairs_in, pairs_read, reach, ages_in, ages_read}
 use Rattle.newick.specs.Reading.{acceptable, faulty, says, reading}
 use Rattle.newick.specs.Copies.{aged, ages_of, dated_at, copied, placed, copy_call, taken, read_call, inners_in, up_from, Closing}
+use Rattle.newick.specs.declared.CopyError.TheVariants as CopyErrors
+use Rattle.newick.specs.declared.ReadError.TheVariants as ReadErrors
 
 -- ---- trees
 
@@ -53,16 +53,16 @@ before_limit = of_bits binary64 0x429f_ffff_ffff_ffff
 
 pub record CopyRows : Type 0 where
   -- "F is `((0:1.000,1:1.000):1.000,2:2.000);`", and what is behind it in the slice stays
-  pub whole : copy_call F (replicate 36 7) ≡ copied (Copieds.Bytes 34) (bytes "((0:1.000,1:1.000):1.000,2:2.000);" ++ (7 ∷ 7 ∷ []))
-  pub exact : copy_call F (replicate 34 7) ≡ copied (Copieds.Bytes 34) (bytes "((0:1.000,1:1.000):1.000,2:2.000);")
-  pub short : copy_call F (replicate 33 7) ≡ copied Copieds.Room (replicate 33 7)
+  pub whole : copy_call F (replicate 36 7) ≡ copied (Ok 34) (bytes "((0:1.000,1:1.000):1.000,2:2.000);" ++ (7 ∷ 7 ∷ []))
+  pub exact : copy_call F (replicate 34 7) ≡ copied (Ok 34) (bytes "((0:1.000,1:1.000):1.000,2:2.000);")
+  pub short : copy_call F (replicate 33 7) ≡ copied (Err CopyErrors.Room) (replicate 33 7)
   -- printed ages 2.000 and 0.999, whose difference is not that of the heights as it would print
-  pub dated : copy_call (pair almost_one Real.zero just_two) (replicate 18 7) ≡ copied (Copieds.Bytes 18) (bytes "(0:1.001,1:2.000);")
+  pub dated : copy_call (pair almost_one Real.zero just_two) (replicate 18 7) ≡ copied (Ok 18) (bytes "(0:1.001,1:2.000);")
   -- "An age of 2^43 or more is a 5", before a 10; the number before it prints
-  pub old : copy_call (pair Real.zero Real.zero limit) [] ≡ copied (Copieds.Refused (Parameter 0)) []
+  pub old : copy_call (pair Real.zero Real.zero limit) [] ≡ copied (Err (CopyErrors.Refused (Parameter 0))) []
   pub oldest : ages_of (before_limit ∷ []) ≡ aged (8796093022207999 ∷ [])
   -- and after 1 to 4
-  pub size : copy_call (record { pairs = []; parents = []; heights = limit ∷ []; root = 0 }) [] ≡ copied (Copieds.Refused (Size 0)) []
+  pub size : copy_call (record { pairs = []; parents = []; heights = limit ∷ []; root = 0 }) [] ≡ copied (Err (CopyErrors.Refused (Size 0))) []
 
 pub copy-rows : CopyRows
 unfolding copy_call placed ages_of printed_of thousandths_of dated_at whole_text text number_text decimal_in digit validated judged scanned scan visit then_adopt adopt joined roots agree
@@ -74,17 +74,17 @@ copy-rows = record { whole = refl; exact = refl; short = refl; dated = refl; old
 pub record ReadRows : Type 0 where
   -- "internal nodes numbered in the order their parentheses close": 4 over 0 and 1, 5 over 2 and 3, then the root; what is behind them in the slices stays
   pub pairs : read_call (bytes "((0:1.000,1:1.000):1.000,(2:1.500,3:0.500):0.250);") (replicate 15 7) (replicate 8 7)
-      ≡ taken (Takens.Nodes 7) (none ++ none ++ none ++ none ++ (0 ∷ 1 ∷ 2 ∷ 3 ∷ 4 ∷ 5 ∷ 7 ∷ [])) (0 ∷ 0 ∷ 250 ∷ 1250 ∷ 1000 ∷ 1750 ∷ 2000 ∷ 7 ∷ [])
+      ≡ taken (Ok 7) (none ++ none ++ none ++ none ++ (0 ∷ 1 ∷ 2 ∷ 3 ∷ 4 ∷ 5 ∷ 7 ∷ [])) (0 ∷ 0 ∷ 250 ∷ 1250 ∷ 1000 ∷ 1750 ∷ 2000 ∷ 7 ∷ [])
   -- "above the youngest tip"
-  pub ages : read_call (bytes "(0:1.000,1:1.999);") (replicate 6 7) (replicate 3 7) ≡ taken (Takens.Nodes 3) (none ++ none ++ (0 ∷ 1 ∷ [])) (999 ∷ 0 ∷ 1999 ∷ [])
+  pub ages : read_call (bytes "(0:1.000,1:1.999);") (replicate 6 7) (replicate 3 7) ≡ taken (Ok 3) (none ++ none ++ (0 ∷ 1 ∷ [])) (999 ∷ 0 ∷ 1999 ∷ [])
   -- F's copy, which is numbered so, comes back with its pairs
   pub closing : Closing 5 F
   pub own : read_call (bytes "((0:1.000,1:1.000):1.000,2:2.000);") (replicate 10 7) (replicate 5 7)
-      ≡ taken (Takens.Nodes 5) F.pairs (0 ∷ 0 ∷ 0 ∷ 1000 ∷ 2000 ∷ [])
+      ≡ taken (Ok 5) F.pairs (0 ∷ 0 ∷ 0 ∷ 1000 ∷ 2000 ∷ [])
   -- 10 where either slice is one short, "after 9"
-  pub short_pairs : read_call (bytes "(0:1.000,1:1.999);") (replicate 5 7) (replicate 3 7) ≡ taken Takens.Room (replicate 5 7) (replicate 3 7)
-  pub short_ages : read_call (bytes "(0:1.000,1:1.999);") (replicate 6 7) (replicate 2 7) ≡ taken Takens.Room (replicate 6 7) (replicate 2 7)
-  pub faulty_first : read_call (bytes "(0:1.000,0:1.999);") [] [] ≡ taken (Takens.Place 18) [] []
+  pub short_pairs : read_call (bytes "(0:1.000,1:1.999);") (replicate 5 7) (replicate 3 7) ≡ taken (Err ReadErrors.Room) (replicate 5 7) (replicate 3 7)
+  pub short_ages : read_call (bytes "(0:1.000,1:1.999);") (replicate 6 7) (replicate 2 7) ≡ taken (Err ReadErrors.Room) (replicate 6 7) (replicate 2 7)
+  pub faulty_first : read_call (bytes "(0:1.000,0:1.999);") [] [] ≡ taken (Err (ReadErrors.Place 18)) [] []
   -- "root age below 2^53 thousandths"
   pub oldest : reading (bytes "(0:9007199254740.991,1:0.000);") ≡ says (join (tip 0) 9007199254740991 (tip 1) 0)
   pub too_old : reading (bytes "(0:9007199254740.992,1:0.000);") ≡ faulty 30

@@ -1,5 +1,5 @@
--- The ways through the loops over the bytes of a text. Assumes nothing.
-use mathlib.Core.Path.{◌≡◌, sym, ap, ◌∙◌, subst}
+-- The ways through the passes over the bytes of a text. Assumes nothing.
+use mathlib.Core.Path.{◌≡◌, refl, sym, ap, ◌∙◌, subst}
 use mathlib.Core.Bool.{Bool, true, false, cond}
 use mathlib.Core.List.{List}
 use Prim.Native.Nat.{ℕ, suc, ◌+◌, ◌≤◌, ◌<◌}
@@ -8,11 +8,11 @@ use native.Mathlib.Omega.{arith}
 use lib.Dec.{eqb}
 use lib.ListN.{length, get_or, drop, replicate, drop_of_length-le}
 use lib.Seq.{drop-cons}
-use borrow.Author.Tests.{eq-eqb, ne_eqb}
+use mir.Val.{bool_byte}
 use Rattle.tree.specs.Tree.{no_node}
 use Rattle.newick_file.specs.declared.Filer.{Filer}
 use Rattle.newick_file.specs.Filing.{Filing, filing, file_byte, file, begun, blank, close_of, closes}
-use Rattle.newick_file.specs.Passes.{Built, Files, Counted}
+use Rattle.newick_file.specs.Passes.{Built, Files}
 
 -- ---- the second pass
 
@@ -44,31 +44,27 @@ pub ruleset pass_laws = (files-next, files-end, built-blank)
 
 -- ---- counting
 
-module _ (b n : ℕ) where
-  pub count-one : b ≡ 41 → n + 1 ≡ n + close_of b
-  count-one e = rw (eq-eqb b 41 e)
+pub close-byte : (b : ℕ) → bool_byte (eqb b 41) ≡ close_of b
+close-byte b = go (eqb b 41)
+  where
+    go : (c : Bool) → bool_byte c ≡ cond c 1 0
+    go true = refl
+    go false = refl
 
-  pub count_none : (b ≡ 41 → ⊥) → n ≡ n + close_of b
-  count_none e = rw (ne_eqb b 41 e) (omega arith)
-
-module _ (s : List ℕ) (i n : ℕ) (C : Counted s i n) where
-  pub counted_next : i < length s → (m : ℕ) → m ≡ n + close_of (get_or s i 0) → Counted s (i + 1) m
+module _ (s : List ℕ) (i n : ℕ) (few : n ≤ i) (rest : n + closes (drop i s) ≡ closes s) where
+  pub counted_next : i < length s → n + close_of (get_or s i 0) + closes (drop (i + 1) s) ≡ closes s
   unfolding closes
-  counted_next h m e = record {
-    fit = omega arith;
-    few = go (eqb (get_or s i 0) 41) e;
-    rest =
-        let z : closes (drop i s) ≡ close_of (get_or s i 0) + closes (drop (suc i) s) = ap closes (drop-cons s i 0 h) in
-        let r = C.rest in
-        ap (λ (j : ℕ). m + closes (drop j s)) (add-one i) ∙ omega arith;
-  }
+  counted_next h =
+      let z : closes (drop i s) ≡ close_of (get_or s i 0) + closes (drop (suc i) s) = ap closes (drop-cons s i 0 h) in
+      ap (λ (j : ℕ). n + close_of (get_or s i 0) + closes (drop j s)) (add-one i) ∙ omega arith
+
+  pub counted-few : n + close_of (get_or s i 0) ≤ i + 1
+  counted-few = go (eqb (get_or s i 0) 41)
     where
-      go : (c : Bool) → m ≡ n + cond c 1 0 → m ≤ i + 1
-      go true f = let w = C.few in omega arith
-      go false f = let w = C.few in omega arith
+      go : (c : Bool) → n + cond c 1 0 ≤ i + 1
+      go true = omega arith
+      go false = omega arith
 
   pub counted-end : length s ≤ i → n ≡ closes s
   unfolding closes
-  counted-end h = let z : closes (drop i s) ≡ 0 = ap closes (drop_of_length-le s {i = i} h) in let r = C.rest in omega arith
-
-pub ruleset count_laws = (count-one, count_none, counted_next, counted-end)
+  counted-end h = let z : closes (drop i s) ≡ 0 = ap closes (drop_of_length-le s {i = i} h) in omega arith

@@ -1,7 +1,7 @@
--- What the code of the second pass promises, and what its loops keep. Definitions only. Assumes nothing.
-use Rattle.std.specs.Prelude.{◌≡◌, Bool, List, ℕ, ◌+◌, ◌≤◌, length, drop}
+-- What the code of the second pass promises, and what its loop keeps. Definitions only. Assumes nothing.
+use Rattle.std.specs.Prelude.{◌≡◌, Bool, List, ℕ, ◌≤◌, length, drop}
 use Rattle.newick_file.specs.declared.Filer.{Filer}
-use Rattle.newick_file.specs.Filing.{Filing, filing, file, closes}
+use Rattle.newick_file.specs.Filing.{Filing, filing, file}
 
 -- what a pass filled
 pub record Built (ps us : List ℕ) (se : List Bool) (F : Filing) : Type 0 where
@@ -13,9 +13,3 @@ pub record Built (ps us : List ℕ) (se : List Bool) (F : Filing) : Type 0 where
 pub record Files (s : List ℕ) (i : ℕ) (q : Filer) (ps us st : List ℕ) (se : List Bool) (F : Filing) : Type 0 where
   pub fit : i ≤ length s
   pub rest : file (filing ps us st se q) (drop i s) ≡ F
-
--- so many of the parentheses close before byte i
-pub record Counted (s : List ℕ) (i n : ℕ) : Type 0 where
-  pub fit : i ≤ length s
-  pub few : n ≤ i
-  pub rest : n + closes (drop i s) ≡ closes s

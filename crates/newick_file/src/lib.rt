@@ -2,11 +2,13 @@
 // has judged the spelling by then; here any bytes will do. Assumes nothing.
 #![tactic(auto)]
 
-ghost use Rattle.std.specs.Prelude.{true, false, ◌≡◌, suc, ◌+◌, ◌-◌, ◌*◌, ◌^◌, ◌<◌, min, length, get_or, set, replicate};
-ghost use Rattle.tree.specs.Tree.{no_node};
+ghost use Rattle.std.specs.Prelude.{◌≡◌, suc, ◌+◌, ◌*◌, min, length, set};
 ghost use Rattle.newick_file.specs.Filing.{most, short, after_digit, after_point, after_tip, after_close, after_other, filing, pairs_closed, ups_ended};
-ghost use Rattle.newick_file.specs.Filing.{file_sign, file_byte, file, begun, blank, close_of, closes};
+ghost use Rattle.newick_file.specs.Filing.{file_sign, file_byte, file, begun, blank, closes};
 ghost use Rattle.newick_file.specs.Passes.{Built};
+
+// The mark for no node, where numbers of nodes stay.
+const NO_NODE: usize = 65535;
 
 // Lengths stay at the first root age that is refused.
 const MOST: u64 = 9_007_199_254_740_992;
@@ -22,61 +24,32 @@ struct Filer {
 
 // ---- numbers
 
+// The number of a node, or the mark for none.
 fn narrow(x: usize) -> u16
     ensures { result ≡ short x }
 {
-    if x < 65535 {
-        return x as u16;
-    }
-    65535
+    x.min(NO_NODE) as u16
 }
 
+// The next number, which stays at the mark.
 fn raise(x: usize) -> usize
     ensures { result ≡ short (suc x) }
 {
-    if x < 65535 {
-        return x + 1;
-    }
-    65535
-}
-
-// The difference, or 0.
-pub fn less(a: usize, b: usize) -> usize
-    ensures { result ≡ a - b }
-{
-    if b < a {
-        return a - b;
-    }
-    0
+    x.min(NO_NODE - 1) + 1
 }
 
 // A number with one digit more.
 fn longer(v: u64, d: u8) -> u64
     ensures { result ≡ min (v * 10 + d) most }
 {
-    if 900_719_925_474_099 < v {
-        return MOST;
-    }
-    let x = v * 10 + d as u64;
-    if x < MOST {
-        return x;
-    }
-    MOST
+    (v.min(MOST / 10 + 1) * 10 + u64::from(d)).min(MOST)
 }
 
 // ---- lists
 
-// The node that waits at a place.
-fn waiting(stack: &[u16], k: usize) -> u16
-    ensures { result ≡ get_or stack.now k 0 }
-{
-    if k < stack.len() {
-        return stack[k];
-    }
-    0
-}
-
-fn put_short(l: &mut [u16], k: usize, x: u16)
+// Stores at a place that the list has, and else nothing.
+#[tactic(auto, using(crate::proofs::StoreLaws::store_laws))]
+pub fn put<T: Copy>(l: &mut [T], k: usize, x: T)
     ensures { l.new ≡ set l.old k x }
 {
     if k < l.len() {
@@ -84,22 +57,8 @@ fn put_short(l: &mut [u16], k: usize, x: u16)
     }
 }
 
-pub fn put_long(l: &mut [u64], k: usize, x: u64)
-    ensures { l.new ≡ set l.old k x }
-{
-    if k < l.len() {
-        l[k] = x;
-    }
-}
-
-fn put_seen(l: &mut [bool], k: usize)
-    ensures { l.new ≡ set l.old k true }
-{
-    if k < l.len() {
-        l[k] = true;
-    }
-}
-
+// The next two by halves of the list, since a sum k + k may not fit.
+#[tactic(auto, using(crate::proofs::StoreLaws::store_laws))]
 fn put_first(l: &mut [u16], k: usize, x: u16)
     ensures { l.new ≡ set l.old (k + k) x }
 {
@@ -108,6 +67,7 @@ fn put_first(l: &mut [u16], k: usize, x: u16)
     }
 }
 
+#[tactic(auto, using(crate::proofs::StoreLaws::store_laws))]
 fn put_second(l: &mut [u16], k: usize, x: u16)
     ensures { l.new ≡ set l.old (suc (k + k)) x }
 {
@@ -116,83 +76,46 @@ fn put_second(l: &mut [u16], k: usize, x: u16)
     }
 }
 
-fn fill_short(l: &mut [u16])
-    ensures { l.new ≡ replicate (length l.old) no_node }
-{
-    let mut i = 0;
-    while i < l.len() {
-        l[i] = 65535;
-        i += 1;
-    }
-}
-
-pub fn fill_long(l: &mut [u64])
-    ensures { l.new ≡ replicate (length l.old) 0 }
-{
-    let mut i = 0;
-    while i < l.len() {
-        l[i] = 0;
-        i += 1;
-    }
-}
-
-fn fill_seen(l: &mut [bool])
-    ensures { l.new ≡ replicate (length l.old) false }
-{
-    let mut i = 0;
-    while i < l.len() {
-        l[i] = false;
-        i += 1;
-    }
-}
-
 // ---- a byte
 
+#[tactic(auto, using(crate::proofs::ByteLaws::after_laws))]
 fn after_digit(q: Filer, d: u8) -> Filer
     ensures { result ≡ after_digit d q }
 {
-    let value = longer(q.value, d);
     Filer {
-        height: q.height,
-        next: q.next,
-        value: value,
+        value: longer(q.value, d),
         closed: false,
+        ..q
     }
 }
 
 fn after_point(q: Filer) -> Filer
     ensures { result ≡ after_point q }
 {
-    Filer {
-        height: q.height,
-        next: q.next,
-        value: q.value,
-        closed: false,
-    }
+    Filer { closed: false, ..q }
 }
 
 // A tip is at its end, and waits.
+#[tactic(auto, using(crate::proofs::ByteLaws::after_laws))]
 fn after_tip(q: Filer) -> Filer
     ensures { result ≡ after_tip q }
 {
-    let height = raise(q.height);
     Filer {
-        height: height,
-        next: q.next,
+        height: raise(q.height),
         value: 0,
         closed: false,
+        ..q
     }
 }
 
 // Of the two nodes that wait last and their parent only the parent waits on.
+#[tactic(auto, using(crate::proofs::ByteLaws::after_laws))]
 fn after_close(q: Filer) -> Filer
     ensures { result ≡ after_close q }
 {
-    let height = less(q.height, 1);
-    let next = raise(q.next);
     Filer {
-        height: height,
-        next: next,
+        height: q.height.saturating_sub(1),
+        next: raise(q.next),
         value: 0,
         closed: true,
     }
@@ -202,32 +125,34 @@ fn after_other(q: Filer) -> Filer
     ensures { result ≡ after_other q }
 {
     Filer {
-        height: q.height,
-        next: q.next,
         value: 0,
         closed: false,
+        ..q
     }
 }
 
 // The two nodes that wait last are the children of node n.
+#[tactic(auto, using(crate::proofs::ByteLaws::put_laws))]
 fn put_children(h: usize, n: usize, stack: &[u16], pairs: &mut [u16])
     ensures { pairs.new ≡ pairs_closed h n stack.now pairs.old }
 {
-    let a = waiting(stack, less(h, 2));
-    let b = waiting(stack, less(h, 1));
-    put_first(&mut *pairs, n, a);
+    let a = stack.get(h.saturating_sub(2)).copied().unwrap_or(0);
+    let b = stack.get(h.saturating_sub(1)).copied().unwrap_or(0);
+    put_first(pairs, n, a);
     put_second(pairs, n, b);
 }
 
 // The length of the branch above the node that waits last.
+#[tactic(auto, using(crate::proofs::ByteLaws::put_laws))]
 fn put_length(h: usize, v: u64, stack: &[u16], ups: &mut [u64])
     ensures { ups.new ≡ ups_ended h v stack.now ups.old }
 {
-    let k = waiting(stack, less(h, 1));
-    put_long(ups, k as usize, v);
+    let k = stack.get(h.saturating_sub(1)).copied().unwrap_or(0);
+    put(ups, k as usize, v);
 }
 
 // A byte that is no digit.
+#[tactic(auto, using(crate::proofs::ByteLaws::sign_laws))]
 fn file_sign(
     b: u8,
     q: Filer,
@@ -238,31 +163,30 @@ fn file_sign(
 ) -> Filer
     ensures { filing pairs.new ups.new stack.new seen.new result ≡ file_sign (filing pairs.old ups.old stack.old seen.old q) b }
 {
-    if b == b'.' {
-        return after_point(q);
-    }
-    if b == b':' {
-        if q.closed {
-            return after_other(q);
+    match b {
+        b'.' => after_point(q),
+        b':' if q.closed => after_other(q),
+        b':' => {
+            let k = narrow(q.value as usize);
+            put(stack, q.height, k);
+            put(seen, k as usize, true);
+            after_tip(q)
         }
-        let k = narrow(q.value as usize);
-        put_short(stack, q.height, k);
-        put_seen(seen, k as usize);
-        return after_tip(q);
+        b',' => {
+            put_length(q.height, q.value, stack, ups);
+            after_other(q)
+        }
+        b')' => {
+            put_length(q.height, q.value, stack, ups);
+            put_children(q.height, q.next, stack, pairs);
+            put(stack, q.height.saturating_sub(2), narrow(q.next));
+            after_close(q)
+        }
+        _ => after_other(q),
     }
-    if b == b',' {
-        put_length(q.height, q.value, stack, ups);
-        return after_other(q);
-    }
-    if b == b')' {
-        put_length(q.height, q.value, stack, ups);
-        put_children(q.height, q.next, stack, pairs);
-        put_short(stack, less(q.height, 2), narrow(q.next));
-        return after_close(q);
-    }
-    after_other(q)
 }
 
+#[tactic(auto, using(crate::proofs::ByteLaws::byte_laws))]
 fn file_byte(
     b: u8,
     q: Filer,
@@ -274,13 +198,15 @@ fn file_byte(
     ensures { filing pairs.new ups.new stack.new seen.new result ≡ file_byte (filing pairs.old ups.old stack.old seen.old q) b }
 {
     if text::is_decimal(b) {
-        return after_digit(q, b - b'0');
+        after_digit(q, b - b'0')
+    } else {
+        file_sign(b, q, pairs, ups, stack, seen)
     }
-    file_sign(b, q, pairs, ups, stack, seen)
 }
 
 // ---- a text
 
+#[tactic(auto, using(crate::proofs::PassLaws::pass_laws))]
 fn file_all(
     text: &[u8],
     tips: usize,
@@ -297,14 +223,13 @@ fn file_all(
         value: 0,
         closed: false,
     };
-    let mut i = 0;
-    while i < text.len() {
-        q = file_byte(text[i], q, &mut *pairs, &mut *ups, &mut *stack, &mut *seen);
-        i += 1;
+    for b in text {
+        q = file_byte(*b, q, pairs, ups, stack, seen);
     }
 }
 
 // The pairs, the lengths and the tips of a text with so many tips, whatever the slices held; the stack serves for the pass alone.
+#[tactic(auto, using(crate::proofs::PassLaws::pass_laws))]
 pub fn build(
     text: &[u8],
     tips: usize,
@@ -315,31 +240,20 @@ pub fn build(
 )
     ensures { Built pairs.new ups.new seen.new (file (blank tips (length pairs.old) (length ups.old) stack.old (length seen.old)) text.now) }
 {
-    fill_short(&mut *pairs);
-    fill_long(&mut *ups);
-    fill_seen(&mut *seen);
+    pairs.fill(NO_NODE as u16);
+    ups.fill(0);
+    seen.fill(false);
     file_all(text, tips, pairs, ups, stack, seen);
-}
-
-fn count_byte(b: u8, n: usize) -> usize
-    requires { n + 1 < 2 ^ 64 }
-    ensures { result ≡ n + close_of b }
-{
-    if b == b')' {
-        return n + 1;
-    }
-    n
 }
 
 // How many parentheses close.
 pub fn count(text: &[u8]) -> usize
     ensures { result ≡ closes text.now }
 {
+    // By a loop: `filter` and `count` were tried, and are slower.
     let mut n: usize = 0;
-    let mut i = 0;
-    while i < text.len() {
-        n = count_byte(text[i], n);
-        i += 1;
+    for b in text {
+        n += usize::from(*b == b')');
     }
     n
 }

@@ -8,8 +8,6 @@ use lib.ListN.{length, take}
 use lib.Seq.{length-take-le}
 use borrow.Author.Tests.{lt-ltb, le-ltb}
 use Rattle.newick.specs.Copies.{ReadCall, read_said, read_call}
-use Rattle.newick_spell.specs.declared.Spelling.{Spelling}
-use Rattle.newick_spell.specs.declared.Spelling.TheVariants.{Forbidden, Unfinished, Spelled}
 use Rattle.newick_spell.specs.Spelling.{spelling_of}
 use Rattle.newick_spell.specs.SpellingLaws.{forbidden-reading, unfinished-reading, spelled-run}
 use Rattle.newick_file.specs.Filing.{most, file, blank, closes}
@@ -17,6 +15,9 @@ use Rattle.newick_file.specs.Passes.{Built}
 use Rattle.newick_read.specs.Taking.{root_reach, all_seen, place_call, deliver, judge_age, judge, work}
 use Rattle.newick_read.specs.Given.{Whole, Works}
 use Rattle.newick_read.specs.TakingLaws.{work-read, many_read}
+use Rattle.std.specs.Prelude.{Result, Ok, Err}
+use Rattle.newick_spell.specs.declared.Misspelling.TheVariants as Misspellings
+use Rattle.newick_spell.specs.declared.Misspelling.{Misspelling}
 
 -- ---- what was filled, judged
 
@@ -83,16 +84,16 @@ module _ (s : List ℕ) (A : Whole s) (n : ℕ) (e : n ≡ closes s) where
 
 -- ---- by the spelling
 
-module _ (s : List ℕ) (a : Spelling) (e : a ≡ spelling_of s) where
-  pub read-forbidden : (p : ℕ) → a ≡ Forbidden p → (pairs ages : List ℕ) → place_call p pairs ages ≡ read_call s pairs ages
+module _ (s : List ℕ) (a : Result (Unit {0}) Misspelling) (e : a ≡ spelling_of s) where
+  pub read-forbidden : (p : ℕ) → a ≡ Err (Misspellings.Forbidden p) → (pairs ages : List ℕ) → place_call p pairs ages ≡ read_call s pairs ages
   unfolding read_call
   read-forbidden p f pairs ages = sym (ap (read_said pairs ages) (forbidden-reading s p (sym e ∙ f)))
 
-  pub read-unfinished : a ≡ Unfinished → (pairs ages : List ℕ) → place_call (length s) pairs ages ≡ read_call s pairs ages
+  pub read-unfinished : a ≡ (Err Misspellings.Unfinished) → (pairs ages : List ℕ) → place_call (length s) pairs ages ≡ read_call s pairs ages
   unfolding read_call
   read-unfinished f pairs ages = sym (ap (read_said pairs ages) (unfinished-reading s (sym e ∙ f)))
 
-  pub read-spelled : a ≡ Spelled → Whole s
+  pub read-spelled : a ≡ (Ok tt) → Whole s
   read-spelled f = let r = spelled-run s (sym e ∙ f) in record { value = r.0; ran = r.1 }
 
 pub ruleset call_laws = (whole-many, read-forbidden, read-unfinished, read-spelled)

@@ -1,18 +1,13 @@
 -- The ways through the code that goes down from a node. Assumes nothing.
-use mathlib.Core.Path.{◌≡◌, refl, sym, ap, ap₂, ◌∙◌}
+use mathlib.Core.Path.{◌≡◌, refl, ap, ap₂, ◌∙◌}
 use mathlib.Core.List.{List}
 use Prim.Native.Nat.{ℕ, zero, suc, ◌+◌, ◌-◌, ◌≤◌, ◌<◌, min, max}
 use native.Mathlib.Omega.{arith}
-use lib.ListN.{length, get_or, set, replicate, get_or-eq_default}
+use lib.ListN.{length, get_or, set, replicate}
 use borrow.Author.Tests.{lt-ltb, le-ltb}
 use Rattle.tree.specs.Tree.{first_in, second_in}
 use Rattle.newick_file.specs.Filing.{most}
 use Rattle.newick_read.specs.Taking.{reach_at, ages_at, root_reach, root_ages}
-
--- ---- lengths: past the end there is none
-
-pub read_past : (us : List ℕ) (k : ℕ) → length us ≤ k → 0 ≡ get_or us k 0
-read_past us k h = sym (get_or-eq_default us 0 h)
 
 -- ---- recursion
 

@@ -1,10 +1,10 @@
 -- The reader's passes over what the second pass filled, and what they leave in the lent slices: which tips were seen, the root's age, the ages of all nodes,
 -- the room. They are total: over any lists of pairs fo and lengths us. Definitions only. Assumes nothing.
-use Rattle.std.specs.Prelude.{Bool, true, false, cond, ◌&&◌, List, ◌++◌, ℕ, zero, suc, ◌+◌, ◌-◌, min, max, ltb, length, get_or, set, drop, replicate}
+use Rattle.std.specs.Prelude.{Bool, true, false, cond, ◌&&◌, List, ◌++◌, ℕ, zero, suc, ◌+◌, ◌-◌, min, max, ltb, length, get_or, set, drop, replicate, Ok, Err}
 use Rattle.tree.specs.Tree.{first_in, second_in}
-use Rattle.newick.specs.declared.Taken.TheVariants.{Nodes, Place, Room}
 use Rattle.newick.specs.Copies.{ReadCall, taken}
 use Rattle.newick_file.specs.Filing.{most, file, blank}
+use Rattle.newick.specs.declared.ReadError.TheVariants as ReadErrors
 
 -- ---- below a node v, no deeper than so many levels
 
@@ -40,14 +40,14 @@ all_seen se zero = true
 all_seen se (suc m) = all_seen se m && get_or se m false
 
 abbrev pub place_call : ℕ → List ℕ → List ℕ → ReadCall
-place_call p pairs ages = taken (Place p) pairs ages
+place_call p pairs ages = taken (Err (ReadErrors.Place p)) pairs ages
 
 -- into the lent slices, where both have room
 unfoldable pub deliver : ℕ → List ℕ → List ℕ → ℕ → List ℕ → List ℕ → ReadCall
 deliver tips fo us h pairs ages =
-    cond (ltb (length pairs) (length fo)) (taken Room pairs ages)
-    (cond (ltb (length ages) (length us)) (taken Room pairs ages)
-    (taken (Nodes (length us)) (fo ++ drop (length fo) pairs) (root_ages tips fo us h (length us) ++ drop (length us) ages)))
+    cond (ltb (length pairs) (length fo)) (taken (Err ReadErrors.Room) pairs ages)
+    (cond (ltb (length ages) (length us)) (taken (Err ReadErrors.Room) pairs ages)
+    (taken (Ok (length us)) (fo ++ drop (length fo) pairs) (root_ages tips fo us h (length us) ++ drop (length us) ages)))
 
 -- with the root's age h, of a text of so many bytes
 unfoldable pub judge_age : ℕ → ℕ → List ℕ → List ℕ → ℕ → List ℕ → List ℕ → ReadCall

@@ -1,6 +1,6 @@
 -- The passes say what the text says: what a well-spelled text of at most 2,048 tips fills, judged and delivered, is what the definitions leave of the call
 -- (`work-read`), and one of more tips is refused at its length (`many_read`). Assumes nothing.
-use Rattle.std.specs.Prelude.{◌≡◌, refl, Bool, ◌&&◌, List, [], ◌++◌, ltb, leb, length, drop, replicate}
+use Rattle.std.specs.Prelude.{◌≡◌, refl, Bool, ◌&&◌, List, [], ◌++◌, ltb, leb, length, drop, replicate, Ok, Err}
 use Rattle.std.proofs.Math.Path.{sym, ap, ap₂}
 use Rattle.std.proofs.Common.{◌∙◌, subst, le_refl, arith, lt-ltb, le-ltb, le-leb}
 use Rattle.std.proofs.Math.Bool.{true, false, cond}
@@ -9,7 +9,6 @@ use Prim.Native.Nat.{ℕ, zero, suc, ◌+◌, ◌-◌, ◌≤◌, ◌<◌, min, 
 use Rattle.std.proofs.Math.Decide.{dec_lt}
 use Rattle.std.proofs.Math.ListN.{length-replicate}
 use Rattle.tree.specs.Tree.{no_node}
-use Rattle.newick.specs.declared.Taken.TheVariants.{Nodes, Room}
 use Rattle.newick.specs.Newick.{Newick, tip, join, start, done, reached, run}
 use Rattle.newick.specs.Numbering.{joins, tips_in, nodes_in, node_of, pairs_in, pairs_read, reach, ages_in, ages_read}
 use Rattle.newick.specs.Reading.{acceptable, faulty, says, ended}
@@ -24,6 +23,7 @@ use Rattle.newick_file.proofs.FilingLaws.{joins-capped, whole-filed}
 use Rattle.newick_read.specs.Taking.{reach_at, ages_at, root_reach, root_ages, all_seen, place_call, deliver, judge_age, judge, work}
 use Rattle.newick_read.specs.HeldLaws.{Holds, lengths-length, held}
 use Rattle.newick_read.specs.LimitLaws.{seen-length, seen-occur, Low, cap-same, cap-back}
+use Rattle.newick.specs.declared.ReadError.TheVariants as ReadErrors
 
 -- ---- below a node
 
@@ -134,10 +134,10 @@ module _ (t : Newick) (F : tips_in t ≤ 2048) (L : node_of (tips_in t) (capped 
   handed h e z H = rw (ages-are h e z H, long-P, long-U, pairs-are z) (go (dec_lt (length pairs) (N + N)) (dec_lt (length ages) N))
     where
       none : ReadCall
-      none = taken Room pairs ages
+      none = taken (Err ReadErrors.Room) pairs ages
 
       all : ReadCall
-      all = taken (Nodes N) (pairs_read t ++ drop (N + N) pairs) (ages_read t ++ drop N ages)
+      all = taken (Ok N) (pairs_read t ++ drop (N + N) pairs) (ages_read t ++ drop N ages)
 
       go : Dec (length pairs < N + N) → Dec (length ages < N)
           → cond (ltb (length pairs) (N + N)) none (cond (ltb (length ages) N) none all) ≡ cond (leb (N + N) (length pairs) && leb N (length ages)) all none

@@ -14,10 +14,11 @@ use Rattle.newick.specs.Newick.{tip, join, Frame, first, second, Mode, start, su
 use Rattle.newick.specs.Newick.{Step, stuck, to, on, or_else, on_more, step, reached}
 use Rattle.newick.specs.Newick as Newick
 use Rattle.newick.specs.PlaceLaws.{Fine}
-use Rattle.newick_spell.specs.declared.Spelling.TheVariants.{Unfinished}
 use Rattle.newick_spell.specs.Spelling.{spelling_in}
 use Rattle.newick_spell.specs.Spots.{Spot, Sub, Zero, Name, Colon, Nought, Whole, Point, Led, To, Stuck, only, on_digit, next_spot, spot_of, led_by, end_of}
 use Rattle.newick_spell.specs.Stands.{is_second}
+use Rattle.std.specs.Prelude.{Err}
+use Rattle.newick_spell.specs.declared.Misspelling.TheVariants as Misspellings
 
 -- ---- a reader with values
 
@@ -98,14 +99,14 @@ at_end start fs long = refl
 at_end sub fs long = refl
 at_end (name k) fs long = go (eqb k 0)
   where
-    go : (t : Bool) → Unfinished ≡ end_of (cond t Zero Name)
+    go : (t : Bool) → (Err Misspellings.Unfinished) ≡ end_of (cond t Zero Name)
     go true = refl
     go false = refl
 at_end (made t) fs long = refl
 at_end (colon t) fs long = refl
 at_end (whole t w) fs long = go (eqb w 0)
   where
-    go : (t : Bool) → Unfinished ≡ end_of (cond t Nought Whole)
+    go : (t : Bool) → (Err Misspellings.Unfinished) ≡ end_of (cond t Nought Whole)
     go true = refl
     go false = refl
 at_end (point t w) fs long = refl

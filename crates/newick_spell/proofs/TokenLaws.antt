@@ -11,14 +11,13 @@ use lib.ListN.{length, get_or}
 use borrow.Author.Tests.{lt-ltb, le-ltb, ne_eqb, eqb-true}
 use Rattle.text.specs.Rules.{is_decimal}
 use Rattle.text.specs.DigitLaws.{decimal-within, decimal-is}
-use Rattle.newick_spell.specs.declared.Spelling.TheVariants.{Forbidden, Unfinished}
-use Rattle.newick_spell.specs.declared.Went.{Went}
-use Rattle.newick_spell.specs.declared.Went.TheVariants as Went
 use Rattle.newick_spell.specs.Spelling.{spelling_of}
 use Rattle.newick_spell.specs.Spots.{Spot, Sub, Zero, Name, Colon, Nought, Whole, Point, Tenths, Hundredths, Branch, To, Stuck, only, on_digit, next_spot, end_of}
 use Rattle.newick_spell.specs.Stands.{Stands}
 use Rattle.newick_spell.specs.Tokens.{is_here, is_sign, is_digit, stopped, Digits, Skips, NumberTo, nought, more, NumberFrom, Waits, AtPoint, AtColon, AtTip, Lands, Ends}
 use Rattle.newick_spell.proofs.TurnLaws.{ends_here, stops-here, turn_on}
+use Rattle.std.specs.Prelude.{Result, Ok, Err}
+use Rattle.newick_spell.specs.declared.Misspelling.TheVariants as Misspellings
 
 -- ---- a byte
 
@@ -31,11 +30,11 @@ module _ (s : List ℕ) (at : ℕ) where
   unfolding is_here
   here-past h t = rw (le-ltb at (length s) h)
 
-  pub stop-in : at < length s → Forbidden at ≡ stopped s at
+  pub stop-in : at < length s → Err (Misspellings.Forbidden at) ≡ stopped s at
   unfolding stopped
   stop-in h = rw (lt-ltb at (length s) h)
 
-  pub stop-past : length s ≤ at → Unfinished ≡ stopped s at
+  pub stop-past : length s ≤ at → (Err Misspellings.Unfinished) ≡ stopped s at
   unfolding stopped
   stop-past h = rw (le-ltb at (length s) h)
 
@@ -65,7 +64,7 @@ pub ruleset byte_laws = (here_in, here-past, stop-in, stop-past, room_next, less
 -- ---- a byte that leads on, or none
 
 module _ (s : List ℕ) (at : ℕ) (p : Spot) (d : ℕ) (side : Bool) (l : List Bool) (S : Stands s at p d side l) where
-  broken : end_of p ≡ Unfinished → (at < length s → next_spot p side (eqb d 0) (get_or s at 0) ≡ Stuck) → stopped s at ≡ spelling_of s
+  broken : end_of p ≡ (Err Misspellings.Unfinished) → (at < length s → next_spot p side (eqb d 0) (get_or s at 0) ≡ Stuck) → stopped s at ≡ spelling_of s
   broken z e = go (dec_lt at (length s))
     where
       go : Dec (at < length s) → stopped s at ≡ spelling_of s
@@ -115,13 +114,13 @@ module _ (s : List ℕ) (from : ℕ) where
 
 module _ (s : List ℕ) (at : ℕ) where
   module _ (u : Bool) (e : u ≡ is_sign s at 48) where
-    pub number-nought : u ≡ true → NumberFrom s at (Went.To (at + 1))
+    pub number-nought : u ≡ true → NumberFrom s at (Ok (at + 1))
     number-nought f = nought (sym e ∙ f) refl
 
-    pub number_more : u ≡ false → (v : Bool) → v ≡ is_digit s at → v ≡ true → (to : ℕ) → Skips s (at + 1) to → NumberFrom s at (Went.To to)
+    pub number_more : u ≡ false → (v : Bool) → v ≡ is_digit s at → v ≡ true → (to : ℕ) → Skips s (at + 1) to → NumberFrom s at (Ok to)
     number_more f v g h to K = more (sym e ∙ f) (sym g ∙ h) K
 
-  pub number-not : (v : Bool) → v ≡ is_digit s at → v ≡ false → NumberFrom s at (Went.Not at)
+  pub number-not : (v : Bool) → v ≡ is_digit s at → v ≡ false → NumberFrom s at (Err at)
   number-not v g h = (refl, sym g ∙ h)
 
 pub ruleset number_laws = (digits-none, digits_more, digits-end, number-nought, number_more, number-not)
@@ -132,8 +131,8 @@ pub ruleset number_laws = (digits-none, digits_more, digits-end, number-nought, 
 record Numeral (z n : Spot) (c : ℕ) (led : Spot) : Type 0 where
   zero-on : (side over : Bool) (b : ℕ) → next_spot z side over b ≡ only (eqb b c) led
   more-on : (side over : Bool) (b : ℕ) → next_spot n side over b ≡ cond (eqb b c) (To led) (on_digit b n)
-  zero-short : end_of z ≡ Unfinished
-  more-short : end_of n ≡ Unfinished
+  zero-short : end_of z ≡ (Err Misspellings.Unfinished)
+  more-short : end_of n ≡ (Err Misspellings.Unfinished)
   other : (b : ℕ) → is_decimal b ≡ true → eqb b c ≡ false
 
 name-numeral : Numeral Zero Name 58 Colon
@@ -179,11 +178,11 @@ module _ (z n : Spot) (c : ℕ) (led : Spot) (N : Numeral z n c led) (s : List �
           subst (λ (i : ℕ). Stands s i n d side l) (add-one to) (next-digit to (D.each to (omega arith) (omega arith)) T)
 
   -- what an answer says of the way from a place on, where a number begins
-  abbrev Leaves : ℕ → Went → Type 0
-  Leaves at (Went.To e) = (at < e) × Waits s e (eqb (get_or s e 0) c) led d side l
-  Leaves at (Went.Not x) = stopped s x ≡ spelling_of s
+  abbrev Leaves : ℕ → Result ℕ ℕ → Type 0
+  Leaves at (Ok e) = (at < e) × Waits s e (eqb (get_or s e 0) c) led d side l
+  Leaves at (Err x) = stopped s x ≡ spelling_of s
 
-  module _ (at : ℕ) (p : Spot) (S : Stands s at p d side l) (short : end_of p ≡ Unfinished)
+  module _ (at : ℕ) (p : Spot) (S : Stands s at p d side l) (short : end_of p ≡ (Err Misspellings.Unfinished))
       (begin : at < length s → next_spot p side (eqb d 0) (get_or s at 0) ≡ cond (eqb (get_or s at 0) 48) (To z) (on_digit (get_or s at 0) n)) where
     behind-first : (t : Bool) → eqb (get_or s at 0) 48 ≡ t → is_digit s at ≡ true → Stands s (at + 1) (cond t z n) d side l
     behind-first t e f =
@@ -225,9 +224,9 @@ module _ (z n : Spot) (c : ℕ) (led : Spot) (N : Numeral z n c led) (s : List �
           },
         )
 
-    number-leaves : (r : Went) → NumberFrom s at r → Leaves at r
-    number-leaves (Went.To e) K = number-to e K
-    number-leaves (Went.Not x) K = ap (stopped s) K.0 ∙ broken s at p d side l S short (λ h. begin h ∙ neither h)
+    number-leaves : (r : Result ℕ ℕ) → NumberFrom s at r → Leaves at r
+    number-leaves (Ok e) K = number-to e K
+    number-leaves (Err x) K = ap (stopped s) K.0 ∙ broken s at p d side l S short (λ h. begin h ∙ neither h)
       where
         neither : at < length s → cond (eqb (get_or s at 0) 48) (To z) (on_digit (get_or s at 0) n) ≡ Stuck
         neither h =
@@ -239,17 +238,17 @@ module _ (z n : Spot) (c : ℕ) (led : Spot) (N : Numeral z n c led) (s : List �
 -- ---- the ways through the code of a branch and a tip
 
 module _ (s : List ℕ) where
-  later : (i j d : ℕ) (side : Bool) (l : List Bool) (r : Went) → i ≤ j → Lands s j r d side l → Lands s i r d side l
-  later i j d side l (Went.To e) h L = let k = L.0 in (omega arith, L.1)
-  later i j d side l (Went.Not x) h L = L
+  later : (i j d : ℕ) (side : Bool) (l : List Bool) (r : Result ℕ ℕ) → i ≤ j → Lands s j r d side l → Lands s i r d side l
+  later i j d side l (Ok e) h L = let k = L.0 in (omega arith, L.1)
+  later i j d side l (Err x) h L = L
 
   digit-waits : (at : ℕ) (p led : Spot) (d : ℕ) (side : Bool) (l : List Bool) → ((b : ℕ) → next_spot p side (eqb d 0) b ≡ on_digit b led)
-      → end_of p ≡ Unfinished → Stands s at p d side l → Waits s at (is_decimal (get_or s at 0)) led d side l
+      → end_of p ≡ (Err Misspellings.Unfinished) → Stands s at p d side l → Waits s at (is_decimal (get_or s at 0)) led d side l
   digit-waits at p led d side l e z S = record { spot = p; stands = S; leads = λ h. e (get_or s at 0); short = z }
 
   module _ (at : ℕ) where
     module _ (u : Bool) (e : u ≡ is_digit s at) where
-      pub decimals-none : u ≡ false → Ends s at (Went.Not at) (Stands s at Point)
+      pub decimals-none : u ≡ false → Ends s at (Err at) (Stands s at Point)
       unfolding next_spot
       decimals-none f = λ d side l S.
           breaks s at (is_decimal (get_or s at 0)) Tenths d side l (digit-waits at Point Tenths d side l (λ b. refl) refl S) (sym e ∙ f)
@@ -261,7 +260,7 @@ module _ (s : List ℕ) where
           (takes-digit s at Tenths d side l (digit-waits at Point Tenths d side l (λ b. refl) refl S) (sym e ∙ f))
 
       module _ (f : u ≡ true) (v : Bool) (g : v ≡ is_digit s (at + 1)) where
-        pub decimals-one : v ≡ false → Ends s at (Went.Not (at + 1)) (Stands s at Point)
+        pub decimals-one : v ≡ false → Ends s at (Err (at + 1)) (Stands s at Point)
         decimals-one k = λ d side l S. breaks s (at + 1) (is_decimal (get_or s (at + 1) 0)) Hundredths d side l (one-decimal f d side l S) (sym g ∙ k)
 
         two_decimals : v ≡ true → (d : ℕ) (side : Bool) (l : List Bool) → Stands s at Point d side l
@@ -271,30 +270,30 @@ module _ (s : List ℕ) where
             (takes-digit s (at + 1) Hundredths d side l (one-decimal f d side l S) (sym g ∙ k))
 
         module _ (k : v ≡ true) (w : Bool) (m : w ≡ is_digit s (at + 1 + 1)) where
-          pub decimals-two : w ≡ false → Ends s at (Went.Not (at + 1 + 1)) (Stands s at Point)
+          pub decimals-two : w ≡ false → Ends s at (Err (at + 1 + 1)) (Stands s at Point)
           decimals-two j = λ d side l S.
               breaks s (at + 1 + 1) (is_decimal (get_or s (at + 1 + 1) 0)) Branch d side l (two_decimals k d side l S) (sym m ∙ j)
 
-          pub decimals-all : w ≡ true → Ends s at (Went.To (at + 1 + 1 + 1)) (Stands s at Point)
+          pub decimals-all : w ≡ true → Ends s at (Ok (at + 1 + 1 + 1)) (Stands s at Point)
           decimals-all j = λ d side l S. (omega arith, takes-digit s (at + 1 + 1) Branch d side l (two_decimals k d side l S) (sym m ∙ j))
 
     module _ (u : Bool) (e : u ≡ is_sign s at 46) where
-      pub fraction-not : u ≡ false → Ends s at (Went.Not at) (AtPoint s at)
+      pub fraction-not : u ≡ false → Ends s at (Err at) (AtPoint s at)
       fraction-not f = λ d side l W. breaks s at (eqb (get_or s at 0) 46) Point d side l W (sym e ∙ f)
 
-      pub fraction-on : u ≡ true → (r : Went) → Ends s (at + 1) r (Stands s (at + 1) Point) → Ends s at r (AtPoint s at)
+      pub fraction-on : u ≡ true → (r : Result ℕ ℕ) → Ends s (at + 1) r (Stands s (at + 1) Point) → Ends s at r (AtPoint s at)
       fraction-on f r E = λ d side l W.
           later at (at + 1) d side l r (omega arith) (E d side l (takes-sign s at 46 Point d side l (omega arith) W (sym e ∙ f)))
 
     module _ (u : Bool) (e : u ≡ is_sign s at 58) where
-      pub branch-not : u ≡ false → Ends s at (Went.Not at) (AtColon s at)
+      pub branch-not : u ≡ false → Ends s at (Err at) (AtColon s at)
       branch-not f = λ d side l W. breaks s at (eqb (get_or s at 0) 58) Colon d side l W (sym e ∙ f)
 
-      pub branch-on : u ≡ true → (r : Went) → Ends s (at + 1) r (Stands s (at + 1) Colon) → Ends s at r (AtColon s at)
+      pub branch-on : u ≡ true → (r : Result ℕ ℕ) → Ends s (at + 1) r (Stands s (at + 1) Colon) → Ends s at r (AtColon s at)
       branch-on f r E = λ d side l W.
           later at (at + 1) d side l r (omega arith) (E d side l (takes-sign s at 58 Colon d side l (omega arith) W (sym e ∙ f)))
 
-    module _ (r : Went) (K : NumberFrom s at r) where
+    module _ (r : Result ℕ ℕ) (K : NumberFrom s at r) where
       length-leaves : (d : ℕ) (side : Bool) (l : List Bool) → Stands s at Colon d side l → Leaves Nought Whole 46 Point whole-numeral s d side l at r
       unfolding next_spot
       length-leaves d side l S = number-leaves Nought Whole 46 Point whole-numeral s d side l at Colon S refl (λ h. refl) r K
@@ -304,7 +303,7 @@ module _ (s : List ℕ) where
       tip-leaves d side l A = number-leaves Zero Name 58 Colon name-numeral s d side l at Sub A.stands refl
           (λ h. rw (here-not s at (eqb (get_or s at 0) 40) A.other h)) r K
 
-      module _ (e : ℕ) (q : r ≡ Went.To e) (x : Went) where
+      module _ (e : ℕ) (q : r ≡ Ok e) (x : Result ℕ ℕ) where
         pub length-on : Ends s e x (AtPoint s e) → Ends s at x (Stands s at Colon)
         length-on E = λ d side l S.
             let L = subst (Leaves Nought Whole 46 Point whole-numeral s d side l at) q (length-leaves d side l S) in
@@ -317,11 +316,11 @@ module _ (s : List ℕ) where
             let k : at < e = L.0 in
             later at e d side l x (omega arith) (E d side l L.1)
 
-      module _ (x : ℕ) (q : r ≡ Went.Not x) where
-        pub length-not : Ends s at (Went.Not x) (Stands s at Colon)
+      module _ (x : ℕ) (q : r ≡ Err x) where
+        pub length-not : Ends s at (Err x) (Stands s at Colon)
         length-not = λ d side l S. subst (Leaves Nought Whole 46 Point whole-numeral s d side l at) q (length-leaves d side l S)
 
-        pub tip-not : Ends s at (Went.Not x) (AtTip s at)
+        pub tip-not : Ends s at (Err x) (AtTip s at)
         tip-not = λ d side l A. subst (Leaves Zero Name 58 Colon name-numeral s d side l at) q (tip-leaves d side l A)
 
 pub ruleset token_laws = (decimals-none, decimals-one, decimals-two, decimals-all, fraction-not, fraction-on, branch-not, branch-on, length-on, length-not, tip-on, tip-not)

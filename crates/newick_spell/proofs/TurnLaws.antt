@@ -13,12 +13,13 @@ use borrow.Author.Tests.{eq-eqb, ne_eqb}
 use Rattle.newick.specs.Newick.{Frame, Mode, start, Step, stuck, to, step, run}
 use Rattle.newick.specs.RunLaws.{run_step}
 use Rattle.newick.specs.PlaceLaws.{Fine, Keeps, step_keeps, run-stuck}
-use Rattle.newick_spell.specs.declared.Spelling.TheVariants.{Forbidden}
 use Rattle.newick_spell.specs.Spelling.{spelling_in, spelling_of}
 use Rattle.newick_spell.specs.Spots.{Spot, Start, To, Stuck, next_spot, spot_of, led_by, end_of}
 use Rattle.newick_spell.specs.Stands.{back, comma_under, comma_before, Knows, Stands, Closes}
 use Rattle.newick_spell.proofs.SpotLaws.{is_over, erased, at_end}
 use Rattle.newick_spell.proofs.MoveLaws.{Moved, Moves, moved, knows_on, knows-comma, knows-open, knows-close, closes-one}
+use Rattle.std.specs.Prelude.{Err}
+use Rattle.newick_spell.specs.declared.Misspelling.TheVariants as Misspellings
 
 -- ---- the reader's step
 
@@ -77,11 +78,11 @@ module _ (s : List ℕ) (at : ℕ) (p : Spot) (d : ℕ) (side : Bool) (l : List 
       ∙ ap (λ (r : List ℕ). spelling_in (length s) (run S.mode S.frames r)) (sym (drop_of_length-le s {i = at} h)) ∙ S.rest
 
   module _ (h : at < length s) where
-    pub stops-here : next_spot p side (eqb d 0) (get_or s at 0) ≡ Stuck → Forbidden at ≡ spelling_of s
+    pub stops-here : next_spot p side (eqb d 0) (get_or s at 0) ≡ Stuck → Err (Misspellings.Forbidden at) ≡ spelling_of s
     stops-here e =
         let long : length (get_or s at 0 ∷ drop (suc at) s) ≡ length s - at = ap length (sym (drop-cons s at 0 h)) ∙ length-drop at s in
         let k : at ≡ length s - length (get_or s at 0 ∷ drop (suc at) s) = omega arith in
-        ap Forbidden k
+        (λ i. Err (Misspellings.Forbidden (k i)))
         ∙ ap (spelling_in (length s)) (sym (run-stuck S.mode S.frames (get_or s at 0) (drop (suc at) s) (no_step _ (sym e ∙ led-by))))
         ∙ rest-is h
 

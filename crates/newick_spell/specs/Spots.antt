@@ -1,9 +1,9 @@
 -- The spelling without values: where a reader stands, where a byte leads it, and what the end of a text tells there. Definitions only. Assumes nothing.
-use Rattle.std.specs.Prelude.{Bool, cond, ℕ, eqb}
+use Rattle.std.specs.Prelude.{Bool, cond, ℕ, eqb, Result, Ok, Err}
 use Rattle.text.specs.Rules.{is_decimal}
 use Rattle.newick.specs.Newick.{Mode, start, sub, name, made, colon, whole, point, tenths, hundredths, branch, done, Step, stuck, to, sign}
-use Rattle.newick_spell.specs.declared.Spelling.{Spelling}
-use Rattle.newick_spell.specs.declared.Spelling.TheVariants.{Unfinished, Spelled}
+use Rattle.newick_spell.specs.declared.Misspelling.TheVariants as Misspellings
+use Rattle.newick_spell.specs.declared.Misspelling.{Misspelling}
 
 -- where a reader stands, as Newick.antt has it without the values: but in a number that is 0, as Zero in a name and Nought in a length, where no digit may
 -- follow
@@ -70,17 +70,17 @@ led_by (to m fs) = To (spot_of m)
 
 -- ---- at the end of a text
 
-abbrev pub end_of : Spot → Spelling
-end_of Start = Unfinished
-end_of Sub = Unfinished
-end_of Zero = Unfinished
-end_of Name = Unfinished
-end_of Made = Unfinished
-end_of Colon = Unfinished
-end_of Nought = Unfinished
-end_of Whole = Unfinished
-end_of Point = Unfinished
-end_of Tenths = Unfinished
-end_of Hundredths = Unfinished
-end_of Branch = Unfinished
-end_of Done = Spelled
+abbrev pub end_of : Spot → Result (Unit {0}) Misspelling
+end_of Start = (Err Misspellings.Unfinished)
+end_of Sub = (Err Misspellings.Unfinished)
+end_of Zero = (Err Misspellings.Unfinished)
+end_of Name = (Err Misspellings.Unfinished)
+end_of Made = (Err Misspellings.Unfinished)
+end_of Colon = (Err Misspellings.Unfinished)
+end_of Nought = (Err Misspellings.Unfinished)
+end_of Whole = (Err Misspellings.Unfinished)
+end_of Point = (Err Misspellings.Unfinished)
+end_of Tenths = (Err Misspellings.Unfinished)
+end_of Hundredths = (Err Misspellings.Unfinished)
+end_of Branch = (Err Misspellings.Unfinished)
+end_of Done = (Ok tt)

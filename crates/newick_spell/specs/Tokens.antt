@@ -1,16 +1,15 @@
 -- What the contracts of the tokens and of the pass cite. Definitions only. Assumes nothing.
-use Rattle.std.specs.Prelude.{◌≡◌, Bool, true, false, cond, List, ℕ, ◌+◌, ◌≤◌, ◌<◌, eqb, ltb, length, get_or}
+use Rattle.std.specs.Prelude.{◌≡◌, Bool, true, false, cond, List, ℕ, ◌+◌, ◌≤◌, ◌<◌, eqb, ltb, length, get_or, Result, Ok, Err}
 use Rattle.text.specs.Rules.{is_decimal}
 use Rattle.newick.specs.Newick.{sign}
-use Rattle.newick_spell.specs.declared.Spelling.{Spelling}
-use Rattle.newick_spell.specs.declared.Spelling.TheVariants.{Forbidden, Unfinished}
-use Rattle.newick_spell.specs.declared.Went.{Went}
-use Rattle.newick_spell.specs.declared.Went.TheVariants as Went
-use Rattle.newick_spell.specs.declared.Passed.{Passed}
-use Rattle.newick_spell.specs.declared.Passed.TheVariants as Passed
+use Rattle.std.specs.declared.ops.ControlFlow.{ControlFlow}
+use Rattle.std.specs.declared.ops.ControlFlow.TheVariants.{Continue, Break}
+use Rattle.newick_spell.specs.declared.Scan.{Scan}
 use Rattle.newick_spell.specs.Spelling.{spelling_of}
 use Rattle.newick_spell.specs.Spots.{Spot, Sub, Made, Colon, Point, Branch, only, next_spot, end_of}
 use Rattle.newick_spell.specs.Stands.{Stands}
+use Rattle.newick_spell.specs.declared.Misspelling.TheVariants as Misspellings
+use Rattle.newick_spell.specs.declared.Misspelling.{Misspelling}
 
 -- ---- bytes
 
@@ -25,8 +24,8 @@ abbrev pub is_digit : List ℕ → ℕ → Bool
 is_digit s at = is_here s at (is_decimal (get_or s at 0))
 
 -- the answer where no byte of those that lead on stands
-unfoldable pub stopped : List ℕ → ℕ → Spelling
-stopped s at = cond (ltb at (length s)) (Forbidden at) Unfinished
+unfoldable pub stopped : List ℕ → ℕ → Result (Unit {0}) Misspelling
+stopped s at = cond (ltb at (length s)) (Err (Misspellings.Forbidden at)) (Err Misspellings.Unfinished)
 
 -- ---- numbers
 
@@ -46,9 +45,9 @@ pub data NumberTo (s : List ℕ) (at to : ℕ) : Type 0 where
   more : is_sign s at (sign "0") ≡ false → is_digit s at ≡ true → Skips s (at + 1) to → NumberTo s at to
 
 -- the answer of a token that is such a number
-abbrev pub NumberFrom : List ℕ → ℕ → Went → Type 0
-NumberFrom s at (Went.To e) = NumberTo s at e
-NumberFrom s at (Went.Not x) = (x ≡ at) × (is_digit s at ≡ false)
+abbrev pub NumberFrom : List ℕ → ℕ → Result ℕ ℕ → Type 0
+NumberFrom s at (Ok e) = NumberTo s at e
+NumberFrom s at (Err x) = (x ≡ at) × (is_digit s at ≡ false)
 
 -- ---- tokens
 
@@ -57,7 +56,7 @@ pub record Waits (s : List ℕ) (at : ℕ) (test : Bool) (led : Spot) (d : ℕ) 
   pub spot : Spot
   pub stands : Stands s at spot d side l
   pub leads : at < length s → next_spot spot side (eqb d 0) (get_or s at 0) ≡ only test led
-  pub short : end_of spot ≡ Unfinished
+  pub short : end_of spot ≡ (Err Misspellings.Unfinished)
 
 -- behind the whole part of a length, and behind a subtree inside a parenthesis
 abbrev pub AtPoint : List ℕ → ℕ → ℕ → Bool → List Bool → Type 0
@@ -72,21 +71,25 @@ pub record AtTip (s : List ℕ) (at d : ℕ) (side : Bool) (l : List Bool) : Typ
   pub other : is_sign s at (sign "(") ≡ false
 
 -- where a token ends, it stands behind a branch; where it breaks off, that tells the answer
-abbrev pub Lands : List ℕ → ℕ → Went → ℕ → Bool → List Bool → Type 0
-Lands s at (Went.To e) d side l = (at < e) × Stands s e Branch d side l
-Lands s at (Went.Not x) d side l = stopped s x ≡ spelling_of s
+abbrev pub Lands : List ℕ → ℕ → Result ℕ ℕ → ℕ → Bool → List Bool → Type 0
+Lands s at (Ok e) d side l = (at < e) × Stands s e Branch d side l
+Lands s at (Err x) d side l = stopped s x ≡ spelling_of s
 
 -- a token goes on to the end of a branch, whatever is open
-abbrev pub Ends : List ℕ → ℕ → Went → (ℕ → Bool → List Bool → Type 0) → Type 0
+abbrev pub Ends : List ℕ → ℕ → Result ℕ ℕ → (ℕ → Bool → List Bool → Type 0) → Type 0
 Ends s at r Before = (d : ℕ) (side : Bool) (l : List Bool) → Before d side l → Lands s at r d side l
 
 -- ---- the pass
 
 -- the answer behind the last parenthesis
-abbrev pub Finishes : List ℕ → ℕ → Spelling → Type 0
+abbrev pub Finishes : List ℕ → ℕ → Result (Unit {0}) Misspelling → Type 0
 Finishes s at r = (side : Bool) (l : List Bool) → Stands s at Made 0 side l → r ≡ spelling_of s
+
+-- where a part of the pass leads, or what the whole answers
+abbrev pub Passed : Type 0
+Passed = ControlFlow (Result (Unit {0}) Misspelling) Scan
 
 -- a part of the pass from a place on leads to a spot further on, or answers
 abbrev pub Reaches : List ℕ → ℕ → Passed → Spot → List Bool → Type 0
-Reaches s at (Passed.To q) spot l = (at < q.at) × Stands s q.at spot q.depth q.side l
-Reaches s at (Passed.Is r) spot l = r ≡ spelling_of s
+Reaches s at (Continue q) spot l = (at < q.at) × Stands s q.at spot q.depth q.side l
+Reaches s at (Break r) spot l = r ≡ spelling_of s

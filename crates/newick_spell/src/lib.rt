@@ -10,19 +10,15 @@ ghost use Rattle.newick_spell.specs.Spots.{Branch, Colon, Point, Sub};
 ghost use Rattle.newick_spell.specs.Stands.{comma_before, Closes, Stands};
 ghost use Rattle.newick_spell.specs.Tokens.{is_sign, is_digit, stopped, Skips, NumberFrom, Ends, AtPoint, AtColon, AtTip, Finishes, Reaches};
 
-// What the pass answers: the place of the first forbidden byte; or that only the end is missing; or that nothing is.
-#[derive(Clone, Copy)]
-pub enum Spelling {
-    Forbidden(usize),
-    Unfinished,
-    Spelled,
-}
+use std::ops::ControlFlow;
 
-// Where a token ends, or the place where it breaks off.
+// Why a text is not spelled as a copy is.
 #[derive(Clone, Copy)]
-enum Went {
-    To(usize),
-    Not(usize),
+pub enum Misspelling {
+    // The place of the first byte that the spelling forbids.
+    Forbidden(usize),
+    // The text ends too early.
+    Unfinished,
 }
 
 // Where the pass stands, with how many parentheses open, and whether the innermost is at its second subtree.
@@ -33,36 +29,29 @@ struct Scan {
     side: bool,
 }
 
-// Where a part of the pass leads, or what it answers.
-#[derive(Clone, Copy)]
-enum Passed {
-    To(Scan),
-    Is(Spelling),
-}
+// Where a part of the pass leads, or what the whole answers.
+type Passed = ControlFlow<Result<(), Misspelling>, Scan>;
 
 // ---- tokens
 
 // Whether a byte stands at `at`, and is the sign.
+#[tactic(auto, using(crate::proofs::TokenLaws::byte_laws))]
 fn is_sign(text: &[u8], at: usize, sign: u8) -> bool
     ensures { result ≡ is_sign text.now at sign }
 {
-    if at < text.len() {
-        return text[at] == sign;
-    }
-    false
+    text.get(at).is_some_and(|b| *b == sign)
 }
 
 // Whether a byte stands at `at`, and is a digit.
+#[tactic(auto, using(crate::proofs::TokenLaws::byte_laws))]
 fn is_digit(text: &[u8], at: usize) -> bool
     ensures { result ≡ is_digit text.now at }
 {
-    if at < text.len() {
-        return text::is_decimal(text[at]);
-    }
-    false
+    text.get(at).is_some_and(|b| text::is_decimal(*b))
 }
 
-// Behind the digits.
+// Behind the digits. By a `while`: a `for` over the places would leave at two exits, one for the end of the text.
+#[tactic(auto, using(crate::proofs::TokenLaws::number_laws, crate::proofs::TokenLaws::byte_laws))]
 fn skip_digits(text: &[u8], from: usize) -> usize
     ensures { Skips text.now from result }
 {
@@ -74,79 +63,84 @@ fn skip_digits(text: &[u8], from: usize) -> usize
 }
 
 // A number without leading zeros.
-fn pass_number(text: &[u8], at: usize) -> Went
+#[tactic(auto, using(crate::proofs::TokenLaws::byte_laws, crate::proofs::TokenLaws::number_laws))]
+fn pass_number(text: &[u8], at: usize) -> Result<usize, usize>
     ensures { NumberFrom text.now at result }
 {
     if is_sign(text, at, b'0') {
-        return Went::To(at + 1);
+        Ok(at + 1)
+    } else if is_digit(text, at) {
+        Ok(skip_digits(text, at + 1))
+    } else {
+        Err(at)
     }
-    if is_digit(text, at) {
-        return Went::To(skip_digits(text, at + 1));
-    }
-    Went::Not(at)
 }
 
 // Three decimals.
-fn pass_decimals(text: &[u8], at: usize) -> Went
+#[tactic(auto, using(crate::proofs::TokenLaws::byte_laws, crate::proofs::TokenLaws::token_laws))]
+fn pass_decimals(text: &[u8], at: usize) -> Result<usize, usize>
     ensures { Ends text.now at result (Stands text.now at Point) }
 {
-    if is_digit(text, at) {
-        let second = at + 1;
-        if is_digit(text, second) {
-            let third = second + 1;
-            if is_digit(text, third) {
-                return Went::To(third + 1);
-            }
-            return Went::Not(third);
-        }
-        return Went::Not(second);
+    if !is_digit(text, at) {
+        return Err(at);
     }
-    Went::Not(at)
+    let second = at + 1;
+    if !is_digit(text, second) {
+        return Err(second);
+    }
+    let third = second + 1;
+    if !is_digit(text, third) {
+        return Err(third);
+    }
+    Ok(third + 1)
 }
 
 // A point and three decimals.
-fn pass_fraction(text: &[u8], at: usize) -> Went
+#[tactic(auto, using(crate::proofs::TokenLaws::byte_laws, crate::proofs::TokenLaws::token_laws))]
+fn pass_fraction(text: &[u8], at: usize) -> Result<usize, usize>
     ensures { Ends text.now at result (AtPoint text.now at) }
 {
     if is_sign(text, at, b'.') {
-        return pass_decimals(text, at + 1);
+        pass_decimals(text, at + 1)
+    } else {
+        Err(at)
     }
-    Went::Not(at)
 }
 
 // A length: a number and its fraction.
-fn pass_length(text: &[u8], at: usize) -> Went
+#[tactic(auto, using(crate::proofs::TokenLaws::token_laws))]
+fn pass_length(text: &[u8], at: usize) -> Result<usize, usize>
     ensures { Ends text.now at result (Stands text.now at Colon) }
 {
-    match pass_number(text, at) {
-        Went::To(e) => pass_fraction(text, e),
-        Went::Not(x) => Went::Not(x),
-    }
+    let e = pass_number(text, at)?;
+    pass_fraction(text, e)
 }
 
 // A colon and a length.
-fn pass_branch(text: &[u8], at: usize) -> Went
+#[tactic(auto, using(crate::proofs::TokenLaws::byte_laws, crate::proofs::TokenLaws::token_laws))]
+fn pass_branch(text: &[u8], at: usize) -> Result<usize, usize>
     ensures { Ends text.now at result (AtColon text.now at) }
 {
     if is_sign(text, at, b':') {
-        return pass_length(text, at + 1);
+        pass_length(text, at + 1)
+    } else {
+        Err(at)
     }
-    Went::Not(at)
 }
 
 // A tip's number and its branch.
-fn pass_tip(text: &[u8], at: usize) -> Went
+#[tactic(auto, using(crate::proofs::TokenLaws::token_laws))]
+fn pass_tip(text: &[u8], at: usize) -> Result<usize, usize>
     ensures { Ends text.now at result (AtTip text.now at) }
 {
-    match pass_number(text, at) {
-        Went::To(e) => pass_branch(text, e),
-        Went::Not(x) => Went::Not(x),
-    }
+    let e = pass_number(text, at)?;
+    pass_branch(text, e)
 }
 
 // ---- the sides of the open parentheses
 
-// Whether a comma stands before the innermost parenthesis that is open at `at`.
+// Whether a comma stands before the innermost parenthesis that is open at `at`. By index: the byte before the parenthesis is read too.
+#[tactic(auto, using(crate::proofs::SideLaws::comma_laws))]
 fn comma_before(text: &[u8], at: usize) -> bool
     requires { at ≤ length text.now }
     ensures { result ≡ comma_before text.now at }
@@ -172,17 +166,20 @@ fn comma_before(text: &[u8], at: usize) -> bool
 }
 
 // The side of the parenthesis around one that closes at `at`, where so many stay open.
+#[tactic(auto, using(crate::proofs::SideLaws::keep_laws))]
 fn side_around(text: &[u8], at: usize, outer: usize, sides: &[bool]) -> bool
     requires { Closes text.now at outer sides.now }
     ensures { result ≡ comma_before text.now at }
 {
     if outer < sides.len() {
-        return sides[outer];
+        sides[outer]
+    } else {
+        comma_before(text, at)
     }
-    comma_before(text, at)
 }
 
 // A side, where the array has room for it.
+#[tactic(auto, using(crate::proofs::SideLaws::keep_laws))]
 fn keep(sides: &mut [bool], depth: usize, side: bool)
     ensures { sides.new ≡ set sides.old depth side }
 {
@@ -194,106 +191,93 @@ fn keep(sides: &mut [bool], depth: usize, side: bool)
 // ---- the pass
 
 // The answer where no byte of those that lead on stands.
-fn stop(text: &[u8], at: usize) -> Spelling
+#[tactic(auto, using(crate::proofs::TokenLaws::byte_laws))]
+fn stop(text: &[u8], at: usize) -> Result<(), Misspelling>
     ensures { result ≡ stopped text.now at }
 {
-    if at < text.len() {
-        return Spelling::Forbidden(at);
-    }
-    Spelling::Unfinished
+    Err(if at < text.len() {
+        Misspelling::Forbidden(at)
+    } else {
+        Misspelling::Unfinished
+    })
 }
 
 // Behind the last parenthesis.
-fn spell_end(text: &[u8], at: usize) -> Spelling
+#[tactic(auto, using(crate::proofs::TokenLaws::byte_laws, crate::proofs::PassLaws::end_laws))]
+fn spell_end(text: &[u8], at: usize) -> Result<(), Misspelling>
     ensures { Finishes text.now at result }
 {
-    if is_sign(text, at, b';') {
-        let after = at + 1;
-        if after < text.len() {
-            return Spelling::Forbidden(after);
-        }
-        return Spelling::Spelled;
+    if !is_sign(text, at, b';') {
+        return stop(text, at);
     }
-    stop(text, at)
+    let after = at + 1;
+    if after < text.len() {
+        Err(Misspelling::Forbidden(after))
+    } else {
+        Ok(())
+    }
 }
 
 // Behind a second subtree: its parenthesis, and the branch above that.
+#[tactic(auto, using(crate::proofs::PassLaws::close_laws))]
 fn close_one(text: &[u8], q: Scan, sides: &[bool]) -> Passed
     requires { Stands text.now q.at Branch q.depth true sides.now }
     ensures { Reaches text.now q.at result Branch sides.now }
 {
     let at = q.at;
-    if is_sign(text, at, b')') {
-        let outer = q.depth - 1;
-        if outer == 0 {
-            return Passed::Is(spell_end(text, at + 1));
-        }
-        let around = side_around(text, at, outer, sides);
-        match pass_branch(text, at + 1) {
-            Went::To(e) => {
-                return Passed::To(Scan {
-                    at: e,
-                    depth: outer,
-                    side: around,
-                });
-            }
-            Went::Not(x) => {
-                return Passed::Is(stop(text, x));
-            }
-        }
+    if !is_sign(text, at, b')') {
+        return ControlFlow::Break(stop(text, at));
     }
-    Passed::Is(stop(text, at))
+    let outer = q.depth - 1;
+    if outer == 0 {
+        return ControlFlow::Break(spell_end(text, at + 1));
+    }
+    let side = side_around(text, at, outer, sides);
+    match pass_branch(text, at + 1) {
+        Ok(e) => ControlFlow::Continue(Scan {
+            at: e,
+            depth: outer,
+            side,
+        }),
+        Err(x) => ControlFlow::Break(stop(text, x)),
+    }
 }
 
 // Behind a subtree: all that it ends, and a comma.
+#[tactic(auto, using(crate::proofs::PassLaws::close_laws))]
 fn close_all(text: &[u8], from: Scan, sides: &[bool]) -> Passed
     requires { Stands text.now from.at Branch from.depth from.side sides.now }
     ensures { Reaches text.now from.at result Sub sides.now }
 {
     let mut q = from;
     while q.side {
-        match close_one(text, q, sides) {
-            Passed::To(to) => {
-                q = to;
-            }
-            Passed::Is(told) => {
-                return Passed::Is(told);
-            }
-        }
+        q = close_one(text, q, sides)?;
     }
-    let end = q.at;
-    let after = end + 1;
-    if is_sign(text, end, b',') {
-        return Passed::To(Scan {
-            at: after,
-            depth: q.depth,
-            side: true,
-        });
+    if !is_sign(text, q.at, b',') {
+        return ControlFlow::Break(stop(text, q.at));
     }
-    Passed::Is(stop(text, end))
+    ControlFlow::Continue(Scan {
+        at: q.at + 1,
+        side: true,
+        ..q
+    })
 }
 
 // From a tip to the next subtree.
+#[tactic(auto, using(crate::proofs::PassLaws::pass_laws))]
 fn pass_subtree(text: &[u8], q: Scan, sides: &[bool]) -> Passed
     requires { AtTip text.now q.at q.depth q.side sides.now }
     ensures { Reaches text.now q.at result Sub sides.now }
 {
     match pass_tip(text, q.at) {
-        Went::To(e) => close_all(
-            text,
-            Scan {
-                at: e,
-                depth: q.depth,
-                side: q.side,
-            },
-            sides,
-        ),
-        Went::Not(x) => Passed::Is(stop(text, x)),
+        Ok(e) => close_all(text, Scan { at: e, ..q }, sides),
+        Err(x) => ControlFlow::Break(stop(text, x)),
     }
 }
 
 // Behind the first parenthesis.
-fn spell_inside(text: &[u8], sides: &mut [bool]) -> Spelling
+#[tactic(auto, using(crate::proofs::TokenLaws::byte_laws, crate::proofs::PassLaws::pass_laws))]
+fn spell_inside(text: &[u8], sides: &mut [bool]) -> Result<(), Misspelling>
     requires { Stands text.now 1 Sub 1 false sides.old }
     ensures { result ≡ spelling_of text.now }
 {
@@ -304,7 +288,7 @@ fn spell_inside(text: &[u8], sides: &mut [bool]) -> Spelling
     };
     loop {
         if is_sign(text, q.at, b'(') {
-            keep(&mut *sides, q.depth, q.side);
+            keep(sides, q.depth, q.side);
             q = Scan {
                 at: q.at + 1,
                 depth: q.depth + 1,
@@ -312,10 +296,10 @@ fn spell_inside(text: &[u8], sides: &mut [bool]) -> Spelling
             };
         } else {
             match pass_subtree(text, q, sides) {
-                Passed::To(to) => {
+                ControlFlow::Continue(to) => {
                     q = to;
                 }
-                Passed::Is(told) => {
+                ControlFlow::Break(told) => {
                     return told;
                 }
             }
@@ -324,18 +308,20 @@ fn spell_inside(text: &[u8], sides: &mut [bool]) -> Spelling
 }
 
 // The whole text, whatever the array holds before.
-fn spell_with(text: &[u8], sides: &mut [bool]) -> Spelling
+#[tactic(auto, using(crate::proofs::PassLaws::pass_laws))]
+fn spell_with(text: &[u8], sides: &mut [bool]) -> Result<(), Misspelling>
     ensures { result ≡ spelling_of text.now }
 {
     if is_sign(text, 0, b'(') {
-        keep(&mut *sides, 0, false);
-        return spell_inside(text, &mut *sides);
+        keep(sides, 0, false);
+        spell_inside(text, sides)
+    } else {
+        stop(text, 0)
     }
-    stop(text, 0)
 }
 
 // As many sides as a text of 2,048 tips can have parentheses open, and one more.
-pub fn spell(text: &[u8]) -> Spelling
+pub fn spell(text: &[u8]) -> Result<(), Misspelling>
     ensures { result ≡ spelling_of text.now }
 {
     let mut sides = [false; 2048];

@@ -1,4 +1,4 @@
--- The ways through the code that measures and writes the text of pairs and ages: numbers, lengths and children (`less_laws`, `put_laws`), the room that they
+-- The ways through the code that measures and writes the text of pairs and ages: numbers, lengths and children (`put_laws`), the room that they
 -- take (`room_laws`), and the whole (`copy_laws`). The bytes 40 and 41 are the parentheses, 44 the comma, 46 the point, 58 the colon, 59 the semicolon, and 48
 -- the digit 0. Assumes nothing.
 use mathlib.Core.Path.{◌≡◌, refl, sym, ap, ◌∙◌}
@@ -7,7 +7,7 @@ use mathlib.Core.List.{List, [], ◌∷◌, ◌++◌, append_assoc}
 use Prim.Native.Nat.{ℕ, zero, suc, ◌+◌, ◌-◌, ◌/◌, ◌%◌, ◌^◌, ◌≤◌, ◌<◌}
 use native.Mathlib.Decide.{dec_lt}
 use native.Mathlib.Omega.{arith}
-use lib.ListN.{length, get_or, length-append, get_or-eq_default}
+use lib.ListN.{length, get_or, length-append}
 use mir.Val.{Fits}
 use mir.Syntax.{w64}
 use borrow.Author.Tests.{lt-ltb, le-ltb}
@@ -18,19 +18,13 @@ use Rattle.print.specs.WritingLaws.{write-append, write-whole}
 use Rattle.print.specs.NumberLaws.{digits-few}
 use Rattle.newick.specs.DecimalLaws.{number-text}
 use Rattle.newick.specs.Newick.{number_text, length_text, text, whole_text}
-use Rattle.newick.specs.declared.Copied.TheVariants.{Bytes, Room}
 use Rattle.newick.specs.Copies.{dated_at, newick_of, tree_text, copied, placed}
 use Rattle.newick_write.specs.declared.Children.{Children}
-use Rattle.newick_write.specs.declared.Space.{Space}
-use Rattle.newick_write.specs.declared.Space.TheVariants.{Left, Short}
 use Rattle.newick_write.specs.Given.{children_of, space_after}
+use Rattle.std.specs.Prelude.{Option, Some, None, Ok, Err}
+use Rattle.newick.specs.declared.CopyError.TheVariants as CopyErrors
 
--- ---- ages and children
-
-pub age-past : (ages : List ℕ) (k : ℕ) → length ages ≤ k → 0 ≡ get_or ages k 0
-age-past ages k h = sym (get_or-eq_default ages 0 h)
-
-pub ruleset less_laws = (age-past)
+-- ---- children
 
 abbrev children-made : ℕ → ℕ → ℕ → ℕ → Children
 children-made a b x y = record { first = a; second = b; upper = x; lower = y }
@@ -143,17 +137,17 @@ pub ruleset put_laws = (number_put, last-put, decimals-put, length-put, branch-p
 
 -- ---- room
 
-module _ (left count : ℕ) (room : Space) (e : room ≡ Left left) where
-  pub take_short : left < count → Short ≡ space_after room count
+module _ (left count : ℕ) (room : Option ℕ) (e : room ≡ Some left) where
+  pub take_short : left < count → None ≡ space_after room count
   take_short h = rw (e, lt-ltb left count h)
 
-  pub take-some : count ≤ left → Left (left - count) ≡ space_after room count
+  pub take-some : count ≤ left → Some (left - count) ≡ space_after room count
   take-some h = rw (e, le-ltb left count h)
 
 -- one text behind another
-space-more : (room : Space) (a b : ℕ) → space_after (space_after room a) b ≡ space_after room (a + b)
-space-more Short a b = refl
-space-more (Left n) a b = elim (dec_lt n a) [
+space-more : (room : Option ℕ) (a b : ℕ) → space_after (space_after room a) b ≡ space_after room (a + b)
+space-more None a b = refl
+space-more (Some n) a b = elim (dec_lt n a) [
   | yes h ↦ rw (lt-ltb n a h, lt-ltb n (a + b) (omega arith))
   | no h ↦ elim (dec_lt (n - a) b) [
     | yes k ↦ rw (le-ltb n a (omega arith), lt-ltb (n - a) b k, lt-ltb n (a + b) (omega arith))
@@ -163,8 +157,8 @@ space-more (Left n) a b = elim (dec_lt n a) [
   ]
 ]
 
-then-take : (room : Space) (x y : ℕ) (a r : Space) → a ≡ space_after room x → r ≡ space_after a y → r ≡ space_after room (x + y)
-then-take room x y a r ea er = er ∙ ap (λ (z : Space). space_after z y) ea ∙ space-more room x y
+then-take : (room : Option ℕ) (x y : ℕ) (a r : Option ℕ) → a ≡ space_after room x → r ≡ space_after a y → r ≡ space_after room (x + y)
+then-take room x y a r ea er = er ∙ ap (λ (z : Option ℕ). space_after z y) ea ∙ space-more room x y
 
 pub len_is : (x r : ℕ) → x < 2 ^ 64 → r ≡ length (decimal_text (x / 1000)) → 6 + r ≡ 6 + length (number_text (x / 1000))
 len_is x r h e = ap (λ (l : ℕ). 6 + l) (e ∙ ap length (sym (number-text (x / 1000) (omega arith))))
@@ -183,7 +177,7 @@ join-long : (s x t y : List ℕ)
     → 1 + length s + length (58 ∷ x ++ (44 ∷ [])) + length t + length (58 ∷ y ++ (41 ∷ [])) ≡ length (join_text s x t y)
 join-long s x t y = simp length-append (omega arith)
 
-join-room : (room : Space) (s x t y : List ℕ) (a b c d r : Space) → a ≡ space_after room 1 → b ≡ space_after a (length s)
+join-room : (room : Option ℕ) (s x t y : List ℕ) (a b c d r : Option ℕ) → a ≡ space_after room 1 → b ≡ space_after a (length s)
     → c ≡ space_after b (length (58 ∷ x ++ (44 ∷ []))) → d ≡ space_after c (length t) → r ≡ space_after d (length (58 ∷ y ++ (41 ∷ [])))
     → r ≡ space_after room (length (join_text s x t y))
 join-room room s x t y a b c d r ea eb ec ed er =
@@ -194,21 +188,21 @@ join-room room s x t y a b c d r ea eb ec ed er =
     let to-d = then-take room (1 + length s + upper) (length t) c d to-c ed in
     then-take room (1 + length s + upper + length t) lower d r to-d er ∙ ap (space_after room) (join-long s x t y)
 
-module _ (n k : ℕ) (ps l : List ℕ) (room : Space) where
-  number-room : k < 2 ^ 64 → (d : ℕ) → d ≡ length (decimal_text k) → (r : Space) → r ≡ space_after room d → r ≡ space_after room (length (number_text k))
+module _ (n k : ℕ) (ps l : List ℕ) (room : Option ℕ) where
+  number-room : k < 2 ^ 64 → (d : ℕ) → d ≡ length (decimal_text k) → (r : Option ℕ) → r ≡ space_after room d → r ≡ space_after room (length (number_text k))
   number-room h d e r f = f ∙ ap (space_after room) (e ∙ ap length (sym (number-text k h)))
 
   pub room-none : (depth : ℕ) → depth ≡ 0 → k < 2 ^ 64 → (d : ℕ) → d ≡ length (decimal_text k)
-      → (r : Space) → r ≡ space_after room d → r ≡ space_after room (length (text_at depth n ps l k))
+      → (r : Option ℕ) → r ≡ space_after room d → r ≡ space_after room (length (text_at depth n ps l k))
   room-none depth z h d e r f = number-room h d e r f ∙ ap (λ (s : List ℕ). space_after room (length s)) (text-none n k ps l depth z)
 
   pub room-tip : (depth : ℕ) → (depth ≡ 0 → ⊥) → (c : Bool) → c ≡ inner n k → c ≡ false → k < 2 ^ 64 → (d : ℕ) → d ≡ length (decimal_text k)
-      → (r : Space) → r ≡ space_after room d → r ≡ space_after room (length (text_at depth n ps l k))
+      → (r : Option ℕ) → r ≡ space_after room d → r ≡ space_after room (length (text_at depth n ps l k))
   room-tip depth z c f g h d e r i =
       number-room h d e r i ∙ ap (λ (s : List ℕ). space_after room (length s)) (text-tip n k ps l depth z (sym f ∙ g))
 
   pub room-join : (depth : ℕ) → (depth ≡ 0 → ⊥) → (c : Bool) → c ≡ inner n k → c ≡ true → (q : Children) → q ≡ children_of ps l k
-      → (start first comma second r : Space) (x y : ℕ) → start ≡ space_after room 1 → first ≡ space_after start (length (text_at (depth - 1) n ps l q.first))
+      → (start first comma second r : Option ℕ) (x y : ℕ) → start ≡ space_after room 1 → first ≡ space_after start (length (text_at (depth - 1) n ps l q.first))
       → x ≡ 6 + length (number_text (q.upper / 1000)) → comma ≡ space_after first x
       → second ≡ space_after comma (length (text_at (depth - 1) n ps l q.second))
       → y ≡ 6 + length (number_text (q.lower / 1000)) → r ≡ space_after second y → r ≡ space_after room (length (text_at depth n ps l k))
@@ -229,35 +223,35 @@ module _ (ps l : List ℕ) (root : ℕ) where
   unfolding whole_text
   whole-put w a v ea ev = then-put w (text (newick_of ps root l)) (59 ∷ []) a v ea (byte_put a 59 v ev)
 
-  pub whole_room : (room : ℕ) (a r : Space) → a ≡ space_after (Left room) (length (text_at (length ps / 2) (nodes_of ps) ps l root))
-      → r ≡ space_after a 1 → r ≡ space_after (Left room) (length (tree_text ps root l))
+  pub whole_room : (room : ℕ) (a r : Option ℕ) → a ≡ space_after (Some room) (length (text_at (length ps / 2) (nodes_of ps) ps l root))
+      → r ≡ space_after a 1 → r ≡ space_after (Some room) (length (tree_text ps root l))
   unfolding whole_text
   whole_room room a r ea er =
       let t = text (newick_of ps root l) in
-      then-take (Left room) (length t) 1 a r ea er ∙ ap (space_after (Left room)) (sym (length-append t (59 ∷ [])))
+      then-take (Some room) (length t) 1 a r ea er ∙ ap (space_after (Some room)) (sym (length-append t (59 ∷ [])))
 
-left-clash : (n : ℕ) → Left n ≡ Short → ⊥
+left-clash : (n : ℕ) → Some n ≡ None → ⊥
 left-clash n e = let z : ◌≡◌ {A = ℕ} 0 1 = cc in omega arith
 
 -- what measuring tells of a text of so many bytes
-room-told : (room long : ℕ) (x : Space) → x ≡ space_after (Left room) long → ((n : ℕ) → x ≡ Left n → long ≤ room) × (x ≡ Short → room < long)
+room-told : (room long : ℕ) (x : Option ℕ) → x ≡ space_after (Some room) long → ((n : ℕ) → x ≡ Some n → long ≤ room) × (x ≡ None → room < long)
 room-told room long x e = elim (dec_lt room long) [
-  | yes h ↦ let z : x ≡ Short = e ∙ rw (lt-ltb room long h) in (λ n f. absurd (left-clash n (sym f ∙ z)), λ f. h)
+  | yes h ↦ let z : x ≡ None = e ∙ rw (lt-ltb room long h) in (λ n f. absurd (left-clash n (sym f ∙ z)), λ f. h)
   | no h ↦
-      let z : x ≡ Left (room - long) = e ∙ rw (le-ltb room long (omega arith)) in
+      let z : x ≡ Some (room - long) = e ∙ rw (le-ltb room long (omega arith)) in
       (λ n f. omega arith, λ f. absurd (left-clash (room - long) (sym z ∙ f)))
 ]
 
-module _ (out s : List ℕ) (x : Space) (e : x ≡ space_after (Left (length out)) (length s)) where
-  pub copy-none : x ≡ Short → copied Room out ≡ placed out s
+module _ (out s : List ℕ) (x : Option ℕ) (e : x ≡ space_after (Some (length out)) (length s)) where
+  pub copy-none : x ≡ None → copied (Err CopyErrors.Room) out ≡ placed out s
   unfolding placed
   copy-none h = rw (lt-ltb (length out) (length s) ((room-told (length out) (length s) x e).1 h))
 
-  pub copy-whole : (n : ℕ) → x ≡ Left n → (o : List ℕ) (r : ℕ) → written o r ≡ write (written out 0) s → copied (Bytes r) o ≡ placed out s
+  pub copy-whole : (n : ℕ) → x ≡ Some n → (o : List ℕ) (r : ℕ) → written o r ≡ write (written out 0) s → copied (Ok r) o ≡ placed out s
   unfolding placed
   copy-whole n h o r f =
       let k : length s ≤ length out = (room-told (length out) (length s) x e).0 n h in
       let g = write-whole out s o r k f in
-      rw (le-ltb (length out) (length s) k) (λ i. copied (Bytes (g i).at) (g i).bytes)
+      rw (le-ltb (length out) (length s) k) (λ i. copied (Ok (g i).at) (g i).bytes)
 
 pub ruleset copy_laws = (whole-put, whole_room, copy-none, copy-whole)

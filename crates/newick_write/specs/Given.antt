@@ -1,14 +1,11 @@
 -- What the contracts inside newick_write say: a node's children with the lengths of their branches, the space that is left for a text, and ages that are
 -- printed so far. Definitions only. Assumes nothing.
-use Rattle.std.specs.Prelude.{◌≡◌, Bool, true, false, cond, List, ℕ, ◌-◌, ◌≤◌, ◌<◌, ltb, length, get_or, Float}
+use Rattle.std.specs.Prelude.{◌≡◌, cond, List, ℕ, ◌-◌, ◌≤◌, ◌<◌, ltb, length, get_or, Float, Option, Some, None}
 use Rattle.std.specs.Float.{nan}
 use Rattle.real.specs.Printed.{printed_of}
-use Rattle.real.specs.declared.Printed.TheVariants.{Thousandths}
 use Rattle.tree.specs.Tree.{first_in, second_in}
 use Rattle.newick.specs.Copies.{Aged, too_old, aged}
 use Rattle.newick_write.specs.declared.Children.{Children}
-use Rattle.newick_write.specs.declared.Space.{Space}
-use Rattle.newick_write.specs.declared.Space.TheVariants.{Left, Short}
 
 -- a node's children with the lengths of their branches
 unfoldable pub children_of : List ℕ → List ℕ → ℕ → Children
@@ -20,17 +17,17 @@ children_of pairs ages k = record {
 }
 
 -- the space that so many bytes more leave
-abbrev pub space_after : Space → ℕ → Space
-space_after (Left left) count = cond (ltb left count) Short (Left (left - count))
-space_after Short count = Short
+abbrev pub space_after : Option ℕ → ℕ → Option ℕ
+space_after (Some left) count = cond (ltb left count) None (Some (left - count))
+space_after None count = None
 
 -- ages that were all printed, or not
-abbrev pub aged_in : Bool → List ℕ → Aged
-aged_in true ages = aged ages
-aged_in false ages = too_old
+abbrev pub aged_in : Option (Unit {0}) → List ℕ → Aged
+aged_in (Some tt) ages = aged ages
+aged_in None ages = too_old
 
 -- the first k ages are printed
 pub record Printing (heights : List Float) (ages : List ℕ) (k : ℕ) : Type 0 where
   pub fit : k ≤ length heights
   pub long : length ages ≡ length heights
-  pub done : (j : ℕ) → j < k → printed_of (get_or heights j nan) ≡ Thousandths (get_or ages j 0)
+  pub done : (j : ℕ) → j < k → printed_of (get_or heights j nan) ≡ Some (get_or ages j 0)

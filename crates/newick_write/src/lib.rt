@@ -2,7 +2,7 @@
 // first, so that nothing is written where it does not fit. Assumes nothing.
 #![tactic(auto)]
 
-ghost use Rattle.std.specs.Prelude.{[], ◌∷◌, ◌++◌, ◌≡◌, ◌+◌, ◌-◌, ◌/◌, ◌%◌, ◌≤◌, length, get_or};
+ghost use Rattle.std.specs.Prelude.{[], ◌∷◌, ◌++◌, ◌≡◌, ◌+◌, ◌-◌, ◌/◌, ◌%◌, ◌≤◌, length, get_or, Some};
 ghost use Rattle.tree.specs.Given.{tree_of};
 ghost use Rattle.tree.specs.Tree.{nodes_of};
 ghost use Rattle.print.specs.Writing.{written, write};
@@ -11,13 +11,13 @@ ghost use Rattle.newick.specs.Copies.{dated_at, tree_text, ages_of, copied, plac
 ghost use Rattle.newick_write.specs.Given.{children_of, space_after, aged_in};
 
 use answer::Refusal;
-use newick::Copied;
+use newick::CopyError;
 use print::{decimal_len, put_byte, put_decimal};
-use real::Printed;
-use tree::Verdict;
+use tree::{MOST_NODES, Tree};
 
 // ---- numbers and lengths
 
+#[tactic(auto, using(crate::proofs::PutLaws::put_laws))]
 fn put_number(out: &mut [u8], at: usize, n: u64) -> usize
     ensures { written out.new result ≡ write (written out.old at) (number_text n) }
 {
@@ -25,40 +25,45 @@ fn put_number(out: &mut [u8], at: usize, n: u64) -> usize
 }
 
 // The last two decimals of a length.
+#[tactic(auto, using(crate::proofs::PutLaws::put_laws))]
 fn put_last(out: &mut [u8], at: usize, x: u64) -> usize
     ensures { written out.new result ≡ write (written out.old at) ((48 + x / 10 % 10) ∷ (48 + x % 10) ∷ []) }
 {
-    let place = put_byte(&mut *out, at, (48 + x / 10 % 10) as u8);
+    let place = put_byte(out, at, (48 + x / 10 % 10) as u8);
     put_byte(out, place, (48 + x % 10) as u8)
 }
 
 // Its point and three decimals.
+#[tactic(auto, using(crate::proofs::PutLaws::put_laws))]
 fn put_decimals(out: &mut [u8], at: usize, x: u64) -> usize
     ensures { written out.new result ≡ write (written out.old at) (46 ∷ (48 + x / 100 % 10) ∷ (48 + x / 10 % 10) ∷ (48 + x % 10) ∷ []) }
 {
-    let tenths = put_byte(&mut *out, at, 46);
-    let rest = put_byte(&mut *out, tenths, (48 + x / 100 % 10) as u8);
+    let tenths = put_byte(out, at, b'.');
+    let rest = put_byte(out, tenths, (48 + x / 100 % 10) as u8);
     put_last(out, rest, x)
 }
 
 // A colon and a length in thousandths.
+#[tactic(auto, using(crate::proofs::PutLaws::put_laws))]
 fn put_length(out: &mut [u8], at: usize, x: u64) -> usize
     ensures { written out.new result ≡ write (written out.old at) (58 ∷ length_text x) }
 {
-    let whole = put_byte(&mut *out, at, 58);
-    let point = put_number(&mut *out, whole, x / 1000);
+    let whole = put_byte(out, at, b':');
+    let point = put_number(out, whole, x / 1000);
     put_decimals(out, point, x)
 }
 
 // These, and the sign after them.
+#[tactic(auto, using(crate::proofs::PutLaws::put_laws))]
 fn put_branch(out: &mut [u8], at: usize, x: u64, after: u8) -> usize
     ensures { written out.new result ≡ write (written out.old at) (58 ∷ length_text x ++ (after ∷ [])) }
 {
-    let place = put_length(&mut *out, at, x);
+    let place = put_length(out, at, x);
     put_byte(out, place, after)
 }
 
 // How many bytes these are.
+#[tactic(auto, using(crate::proofs::PutLaws::room_laws, crate::proofs::PutLaws::copy_laws))]
 fn branch_len(x: u64) -> usize
     ensures { result ≡ 6 + length (number_text (x / 1000)) }
 {
@@ -67,29 +72,13 @@ fn branch_len(x: u64) -> usize
 
 // ---- nodes
 
-fn age(ages: &[u64], k: usize) -> u64
-    ensures { result ≡ get_or ages.now k 0 }
-{
-    if k < ages.len() {
-        return ages[k];
-    }
-    0
-}
-
-fn less(a: u64, b: u64) -> u64
-    ensures { result ≡ a - b }
-{
-    if b < a {
-        return a - b;
-    }
-    0
-}
-
 // The length of the branch above a child.
 fn branch(ages: &[u64], node: usize, child: usize) -> u64
     ensures { result ≡ get_or ages.now node 0 - get_or ages.now child 0 }
 {
-    less(age(ages, node), age(ages, child))
+    let upper = ages.get(node).copied().unwrap_or(0);
+    let lower = ages.get(child).copied().unwrap_or(0);
+    upper.saturating_sub(lower)
 }
 
 // The children of a node, each with the length of its branch.
@@ -101,22 +90,22 @@ struct Children {
     lower: u64,
 }
 
+#[tactic(auto, using(crate::proofs::PutLaws::put_laws))]
 fn read_children(pairs: &[u16], ages: &[u64], node: usize) -> Children
     ensures { result ≡ children_of pairs.now ages.now node }
 {
-    let a = reads::first(pairs, node);
-    let b = reads::second(pairs, node);
-    let x = branch(ages, node, a);
-    let y = branch(ages, node, b);
+    let first = reads::first(pairs, node);
+    let second = reads::second(pairs, node);
     Children {
-        first: a,
-        second: b,
-        upper: x,
-        lower: y,
+        first,
+        second,
+        upper: branch(ages, node, first),
+        lower: branch(ages, node, second),
     }
 }
 
 // The text of a node, no deeper than so many levels.
+#[tactic(auto, using(crate::proofs::PutLaws::put_laws))]
 fn put_node(
     pairs: &[u16],
     ages: &[u64],
@@ -127,157 +116,130 @@ fn put_node(
 ) -> usize
     ensures { written out.new result ≡ write (written out.old at) (text (dated_at depth (nodes_of pairs.now) pairs.now ages.now node)) }
 {
-    if depth == 0 {
+    if depth == 0 || !reads::is_inner(pairs.len() / 2, node) {
         return put_number(out, at, node as u64);
     }
-    if reads::is_inner(pairs.len() / 2, node) {
-        let c = read_children(pairs, ages, node);
-        let first = put_byte(&mut *out, at, 40);
-        let colon = put_node(pairs, ages, c.first, depth - 1, &mut *out, first);
-        let second = put_branch(&mut *out, colon, c.upper, 44);
-        let last = put_node(pairs, ages, c.second, depth - 1, &mut *out, second);
-        return put_branch(out, last, c.lower, 41);
-    }
-    put_number(out, at, node as u64)
+    let c = read_children(pairs, ages, node);
+    let first = put_byte(out, at, b'(');
+    let colon = put_node(pairs, ages, c.first, depth - 1, out, first);
+    let second = put_branch(out, colon, c.upper, b',');
+    let last = put_node(pairs, ages, c.second, depth - 1, out, second);
+    put_branch(out, last, c.lower, b')')
 }
 
 // ---- space
 
-// How many bytes are left for a text, or that there were too few.
-#[derive(Clone, Copy)]
-enum Space {
-    Left(usize),
-    Short,
-}
-
-fn take(space: Space, count: usize) -> Space
+// What so many bytes more leave.
+#[tactic(auto, using(crate::proofs::PutLaws::room_laws))]
+fn take(space: Option<usize>, count: usize) -> Option<usize>
     ensures { result ≡ space_after space count }
 {
-    match space {
-        Space::Left(left) => {
-            if left < count {
-                return Space::Short;
-            }
-            return Space::Left(left - count);
-        }
-        Space::Short => {
-            return Space::Short;
-        }
-    }
+    space?.checked_sub(count)
 }
 
 // What the text of a node leaves.
-fn take_node(pairs: &[u16], ages: &[u64], node: usize, depth: usize, space: Space) -> Space
+#[tactic(auto, using(crate::proofs::PutLaws::room_laws))]
+fn take_node(
+    pairs: &[u16],
+    ages: &[u64],
+    node: usize,
+    depth: usize,
+    space: Option<usize>,
+) -> Option<usize>
     ensures { result ≡ space_after space (length (text (dated_at depth (nodes_of pairs.now) pairs.now ages.now node))) }
 {
-    if depth == 0 {
+    if depth == 0 || !reads::is_inner(pairs.len() / 2, node) {
         return take(space, decimal_len(node as u64));
     }
-    if reads::is_inner(pairs.len() / 2, node) {
-        let c = read_children(pairs, ages, node);
-        let first = take_node(pairs, ages, c.first, depth - 1, take(space, 1));
-        let comma = take(first, branch_len(c.upper));
-        let second = take_node(pairs, ages, c.second, depth - 1, comma);
-        return take(second, branch_len(c.lower));
-    }
-    take(space, decimal_len(node as u64))
+    let c = read_children(pairs, ages, node);
+    let first = take_node(pairs, ages, c.first, depth - 1, take(space, 1));
+    let comma = take(first, branch_len(c.upper));
+    let second = take_node(pairs, ages, c.second, depth - 1, comma);
+    take(second, branch_len(c.lower))
 }
 
 // ---- a tree with ages
 
-fn take_whole(pairs: &[u16], ages: &[u64], root: usize, space: usize) -> Space
-    ensures { result ≡ space_after (Space.Left space) (length (tree_text pairs.now root ages.now)) }
+#[tactic(auto, using(crate::proofs::PutLaws::room_laws, crate::proofs::PutLaws::copy_laws))]
+fn take_whole(pairs: &[u16], ages: &[u64], root: usize, space: usize) -> Option<usize>
+    ensures { result ≡ space_after (Some space) (length (tree_text pairs.now root ages.now)) }
 {
-    let left = take_node(pairs, ages, root, pairs.len() / 2, Space::Left(space));
+    let left = take_node(pairs, ages, root, pairs.len() / 2, Some(space));
     take(left, 1)
 }
 
+#[tactic(auto, using(crate::proofs::PutLaws::room_laws, crate::proofs::PutLaws::copy_laws))]
 fn put_whole(pairs: &[u16], ages: &[u64], root: usize, out: &mut [u8]) -> usize
     ensures { written out.new result ≡ write (written out.old 0) (tree_text pairs.now root ages.now) }
 {
-    let end = put_node(pairs, ages, root, pairs.len() / 2, &mut *out, 0);
-    put_byte(out, end, 59)
+    let end = put_node(pairs, ages, root, pairs.len() / 2, out, 0);
+    put_byte(out, end, b';')
 }
 
 // The text of a tree with ages in whole thousandths; of slices that are no tree, some text.
-pub fn write_ages(pairs: &[u16], ages: &[u64], root: usize, out: &mut [u8]) -> Copied
+#[tactic(auto, using(crate::proofs::PutLaws::room_laws, crate::proofs::PutLaws::copy_laws))]
+pub fn write_ages(
+    pairs: &[u16],
+    ages: &[u64],
+    root: usize,
+    out: &mut [u8],
+) -> Result<usize, CopyError>
     ensures { copied result out.new ≡ placed out.old (tree_text pairs.now root ages.now) }
 {
-    match take_whole(pairs, ages, root, out.len()) {
-        Space::Left(_) => {
-            return Copied::Bytes(put_whole(pairs, ages, root, out));
-        }
-        Space::Short => {
-            return Copied::Room;
-        }
-    }
+    take_whole(pairs, ages, root, out.len()).ok_or(CopyError::Room)?;
+    Ok(put_whole(pairs, ages, root, out))
 }
 
 // ---- an accepted tree
 
-// The printed ages of the heights; false where one is not printed.
-fn print_ages(heights: &[f64], ages: &mut [u64]) -> bool
+// The printed ages of the heights; None where one is not printed.
+#[tactic(auto, using(crate::proofs::AgesLaws::ages_laws))]
+fn print_ages(heights: &[f64], ages: &mut [u64]) -> Option<()>
     requires { length ages.old ≡ length heights.now }
     ensures { aged_in result ages.new ≡ ages_of heights.now }
 {
-    let mut k = 0;
-    while k < heights.len() {
-        match real::print_age(heights[k]) {
-            Printed::Thousandths(age) => {
-                ages[k] = age;
-            }
-            Printed::Outside => {
-                return false;
-            }
-        }
-        k += 1;
+    for (k, x) in heights.iter().enumerate() {
+        ages[k] = real::print_age(*x)?;
     }
-    true
+    Some(())
 }
 
 // In as many places as there are heights.
+#[tactic(auto, using(crate::proofs::WriteLaws::write_laws))]
 fn write_with(
     pairs: &[u16],
     heights: &[f64],
     root: usize,
     ages: &mut [u64],
     out: &mut [u8],
-) -> Copied
+) -> Result<usize, CopyError>
     requires { length ages.old ≡ length heights.now }
     ensures { copied result out.new ≡ copy_aged (tree_of pairs.now [] heights.now root) out.old (ages_of heights.now) }
 {
-    if print_ages(heights, &mut *ages) {
-        return write_ages(pairs, ages, root, out);
-    }
-    Copied::Refused(Refusal::Parameter(0))
+    print_ages(heights, ages).ok_or(Refusal::Parameter(0))?;
+    write_ages(pairs, ages, root, out)
 }
 
-// Places for the ages of the largest tree.
-fn no_ages() -> [u64; 4095]
-    ensures { length result ≡ 4095 }
-{
-    [0u64; 4095]
-}
-
-fn write_valid(pairs: &[u16], heights: &[f64], root: usize, out: &mut [u8]) -> Copied
+// In places for the ages of the largest tree.
+#[tactic(auto, using(crate::proofs::WriteLaws::write_laws))]
+fn write_valid(
+    pairs: &[u16],
+    heights: &[f64],
+    root: usize,
+    out: &mut [u8],
+) -> Result<usize, CopyError>
     requires { length heights.now ≤ 4095 }
     ensures { copied result out.new ≡ copy_aged (tree_of pairs.now [] heights.now root) out.old (ages_of heights.now) }
 {
-    let mut ages = no_ages();
-    let n = heights.len();
-    write_with(pairs, heights, root, &mut ages[..n], out)
+    let mut ages = [0u64; MOST_NODES];
+    write_with(pairs, heights, root, &mut ages[..heights.len()], out)
 }
 
 // The Newick text of an accepted tree.
-pub fn write(pairs: &[u16], parents: &[u16], heights: &[f64], root: usize, out: &mut [u8]) -> Copied
-    ensures { copied result out.new ≡ copy_call (tree_of pairs.now parents.now heights.now root) out.old }
+#[tactic(auto, using(crate::proofs::WriteLaws::write_laws))]
+pub fn write(tree: &Tree<'_>, out: &mut [u8]) -> Result<usize, CopyError>
+    ensures { copied result out.new ≡ copy_call tree.now out.old }
 {
-    match quick::validate(pairs, parents, heights, root) {
-        Verdict::Fine => {
-            return write_valid(pairs, heights, root, out);
-        }
-        Verdict::Refused(why) => {
-            return Copied::Refused(why);
-        }
-    }
+    quick::validate(tree)?;
+    write_valid(tree.pairs, tree.heights, tree.root, out)
 }

@@ -1,5 +1,5 @@
 -- The ways through the code that writes values and lines. w is what was written before, v what is written in the end. Assumes nothing.
-use mathlib.Core.Path.{◌≡◌, refl, sym, ap, ◌∙◌}
+use mathlib.Core.Path.{◌≡◌, ap, ◌∙◌}
 use mathlib.Core.Bool.{Bool, true, false}
 use mathlib.Core.List.{List}
 use Prim.Native.Nat.{ℕ, ◌+◌, ◌-◌, ◌/◌, ◌≤◌, ◌<◌}
@@ -15,10 +15,9 @@ use lib.Ieee.{Float, nan, binary64, to_bits}
 use Rattle.answer.specs.declared.Ratio.{Ratio}
 use Rattle.answer.specs.declared.Ratio.TheVariants as Ratios
 use Rattle.text.specs.Text.{bytes, word_text, decimal_text}
-use Rattle.print.specs.Writing.{Written, written, write_byte, write}
+use Rattle.print.specs.Writing.{Written, write_byte, write}
 use Rattle.print.specs.WritingLaws.{write-append, write_then}
-use Rattle.tree.specs.Tree.{first_in, second_in}
-use Rattle.notation.specs.Notation.{line, comma, bits_text, negative, signed_text, state_text, ratio_text, pair_line, pair_lines, pairs_text, height_line, heights_text}
+use Rattle.notation.specs.Notation.{comma, bits_text, negative, signed_text, state_text, ratio_text, pair_line, pair_lines, pairs_text, height_line, heights_text}
 use Rattle.notation.specs.NotationLaws.{write-comma, comma-put, line-put, next-pair}
 use Rattle.notation.proofs.SignLaws.{read}
 

@@ -1,11 +1,11 @@
 -- How long the texts of values and lines are, and that the pairs' are not too long (`pairs-few`). Assumes nothing.
-use Rattle.std.specs.Prelude.{◌≡◌, refl, Bool, true, false, cond, List, [], ◌∷◌, ◌++◌, ℕ, zero, suc, ◌+◌, ◌-◌, ◌*◌, ◌/◌, ◌≤◌, ℤ, nat_abs, length, Float}
+use Rattle.std.specs.Prelude.{◌≡◌, refl, Bool, true, false, cond, List, [], ◌∷◌, ℕ, zero, suc, ◌+◌, ◌-◌, ◌*◌, ◌≤◌, ℤ, nat_abs, length, Float}
 use Rattle.std.proofs.Common.{ap, ◌∙◌, arith, length-append}
 use Rattle.std.specs.Float.{binary64}
 use Rattle.std.specs.Float.Ieee.{to_bits}
 use Rattle.answer.specs.declared.Ratio.{Ratio}
 use Rattle.answer.specs.declared.Ratio.TheVariants as Ratios
-use Rattle.text.specs.Text.{bytes, line_end, word_text, decimal_text}
+use Rattle.text.specs.Text.{bytes, word_text, decimal_text}
 use Rattle.print.specs.NumberLaws.{hex-length, digits-few}
 use Rattle.tree.specs.Tree.{nodes_of, tips_of, first_in, second_in}
 use Rattle.notation.specs.Notation.{line, comma, bits_text, negative, signed_text, state_text, ratio_text, pair_line, pair_lines, pairs_text, height_line, heights_text}

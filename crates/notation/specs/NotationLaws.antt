@@ -1,6 +1,6 @@
 -- How two values and how a line are written part after part (`write-comma`, `write-line`), and by code that writes the parts (`comma-put`, `line-put`);
 -- the next of the pairs that are left (`next-pair`). Assumes nothing.
-use Rattle.std.specs.Prelude.{◌≡◌, List, [], ◌∷◌, ◌++◌, ℕ, suc, ◌+◌, ◌-◌, ◌<◌, get_or}
+use Rattle.std.specs.Prelude.{◌≡◌, List, ◌++◌, ℕ, suc, ◌+◌, ◌-◌, ◌<◌, get_or}
 use Rattle.std.proofs.Common.{sym, ap, ◌∙◌, add-one, arith}
 use Rattle.text.specs.Text.{bytes, line_end}
 use Rattle.print.specs.Writing.{Written, write_byte, write}

@@ -8,12 +8,9 @@ use native.Mathlib.Numerals.{add-one}
 use native.Mathlib.Decide.{ℕ_discrete, dec_le}
 use lib.ListN.{length, get_or, set, take, drop, length-set, length-append, length-drop}
 use lib.Seq.{drop-length, take-suc, take-suc-set, take-set-le, drop-cons, drop-set-lt, get_or-set_same, get_or-set_other, length-take-le, get_or-take}
-use lib.Ieee.{Float}
 use borrow.Author.Tests.{lt-ltb, le-ltb, eq-eqb, ne_eqb}
 use Rattle.answer.specs.declared.Refusal.{Refusal}
 use Rattle.answer.specs.declared.Refusal.TheVariants.{Size}
-use Rattle.tree.specs.declared.Verdict.{Verdict}
-use Rattle.tree.specs.declared.Verdict.TheVariants.{Fine, Refused}
 use Rattle.tree.specs.Tree.{Tree, first_in, second_in, subtree}
 use Rattle.tree.specs.New.{validated}
 use Rattle.tree.specs.Valid.{Valid, Inner}
@@ -24,6 +21,7 @@ use Rattle.accepted.specs.SubtreeLaws.{subtree-some, subtree-inner, subtree-tip,
 use Rattle.accepted.specs.ValidatedLaws.{fine-valid}
 use Rattle.order.specs.Postorder.{postorder_given, postorder_call}
 use Rattle.order.specs.Filling.{Waiting, waiting, visited, Visits, Fills, spread, Filling}
+use Rattle.std.specs.Prelude.{Result, Ok, Err}
 
 -- ---- one node
 
@@ -345,22 +343,22 @@ pub ruleset fill_laws = (fill_start, fill-root, fill-some, fill-few, fill_end, f
 
 -- ---- the entry point
 
-module _ (pairs ps : List ℕ) (hs : List Float) (root : ℕ) (order : List ℕ) where
-  pub postorder-size : (length order ≡ length pairs / 2 → ⊥) → postorder_given (Refused (Size (length pairs / 2))) order ≡ postorder_call (tree_of pairs ps hs root) order
+module _ (t : Tree) (order : List ℕ) where
+  pub postorder-size : (length order ≡ length t.pairs / 2 → ⊥) → postorder_given (Err (Size (length t.pairs / 2))) order ≡ postorder_call t order
   unfolding postorder_call
   postorder-size d = rw (ne_eqb _ _ d)
 
-  module _ (l : length order ≡ length pairs / 2) (v : Verdict) (e : v ≡ validated (tree_of pairs ps hs root)) where
-    pub postorder-refused : (why : Refusal) → v ≡ Refused why → postorder_given (Refused why) order ≡ postorder_call (tree_of pairs ps hs root) order
+  pub postorder-fills : (u : Tree) → u ≡ t → length order ≡ length u.pairs / 2 → (v : Result (Unit {0}) Refusal) → v ≡ validated t → v ≡ Ok tt → Fills u.pairs u.root (length order)
+  postorder-fills u f l v e y = record { parents = u.parents; heights = u.heights; valid = rw l (fine-valid u (ap validated f ∙ sym e ∙ y)) }
+
+  module _ (l : length order ≡ length t.pairs / 2) (v : Result (Unit {0}) Refusal) (e : v ≡ validated t) where
+    pub postorder-refused : (why : Refusal) → v ≡ Err why → postorder_given (Err why) order ≡ postorder_call t order
     unfolding postorder_call
     postorder-refused why y = rw (eq-eqb _ _ l, ← e, y)
 
-    module _ (y : v ≡ Fine) where
-      pub postorder-fills : Fills pairs root (length order)
-      postorder-fills = record { parents = ps; heights = hs; valid = rw l (fine-valid (tree_of pairs ps hs root) (sym e ∙ y)) }
-
-      pub postorder-done : (o : List ℕ) → o ≡ subtree (length order) (length order) pairs root → postorder_given Fine o ≡ postorder_call (tree_of pairs ps hs root) order
+    module _ (y : v ≡ Ok tt) where
+      pub postorder-done : (o : List ℕ) → o ≡ subtree (length order) (length order) t.pairs t.root → postorder_given (Ok tt) o ≡ postorder_call t order
       unfolding postorder_call
       postorder-done o f = rw (eq-eqb _ _ l, ← e, y, f, l)
 
-pub ruleset postorder_laws = (postorder-size, postorder-refused, postorder-fills, postorder-done)
+pub ruleset postorder_laws = (postorder-size, postorder-refused, postorder-done)

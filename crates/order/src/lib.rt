@@ -4,14 +4,14 @@
 
 ghost use Rattle.std.specs.Prelude.{◌≡◌, length};
 ghost use Rattle.tree.specs.Tree.{subtree};
-ghost use Rattle.tree.specs.Given.{tree_of};
 ghost use Rattle.order.specs.Postorder.{postorder_given, postorder_call};
 ghost use Rattle.order.specs.Filling.{waiting, visited, Visits, Fills};
 
 use answer::Refusal;
-use tree::Verdict;
+use tree::Tree;
 
 // Places the last of the nodes that wait at `at`, and lets its children wait in its stead; how many wait then.
+#[tactic(auto, using(tree::specs::PlaceLaws::wide16, crate::proofs::FillLaws::visit_laws))]
 fn visit(pairs: &[u16], order: &mut [u16], last: usize, at: usize) -> usize
     requires { Visits pairs.now order.old last at }
     ensures { waiting result order.new ≡ visited pairs.now order.old last at }
@@ -22,12 +22,14 @@ fn visit(pairs: &[u16], order: &mut [u16], last: usize, at: usize) -> usize
     if n < node + node {
         order[last] = pairs[node + node];
         order[last + 1] = pairs[node + node + 1];
-        return last + 2;
+        last + 2
+    } else {
+        last
     }
-    last
 }
 
 // The postorder of a valid tree with as many nodes as the slice has places.
+#[tactic(auto, using(crate::proofs::FillLaws::fill_laws))]
 pub fn fill(pairs: &[u16], root: usize, order: &mut [u16])
     requires { Fills pairs.now root (length order.old) }
     ensures { order.new ≡ subtree (length order.old) (length order.old) pairs.now root }
@@ -42,26 +44,15 @@ pub fn fill(pairs: &[u16], root: usize, order: &mut [u16])
 }
 
 // The postorder of a tree, or why the tree or the slice is refused, which then stays as it is.
-pub fn postorder(
-    pairs: &[u16],
-    parents: &[u16],
-    heights: &[f64],
-    root: usize,
-    order: &mut [u16],
-) -> Verdict
-    ensures { postorder_given result order.new ≡ postorder_call (tree_of pairs.now parents.now heights.now root) order.old }
+#[tactic(auto, using(crate::proofs::FillLaws::postorder_laws))]
+pub fn postorder(tree: &Tree<'_>, order: &mut [u16]) -> Result<(), Refusal>
+    ensures { postorder_given result order.new ≡ postorder_call tree.now order.old }
 {
-    let n = pairs.len() / 2;
-    if order.len() == n {
-        match quick::validate(pairs, parents, heights, root) {
-            Verdict::Fine => {
-                fill(pairs, root, order);
-                return Verdict::Fine;
-            }
-            Verdict::Refused(why) => {
-                return Verdict::Refused(why);
-            }
-        }
+    let n = tree.pairs.len() / 2;
+    if order.len() != n {
+        return Err(Refusal::Size(n));
     }
-    Verdict::Refused(Refusal::Size(n))
+    quick::validate(tree)?;
+    fill(tree.pairs, tree.root, order);
+    Ok(())
 }

@@ -3,636 +3,554 @@
 // that is missing. "Document 01" is the client's scope paper. Assumes nothing.
 #![tactic(auto)]
 
-use clocks::RatesScaled;
 use kinds::Move;
-use lines::{bits, flag, float, floats, optional, proposal, refused, verdict};
-use rates::{Rate, Stored};
-use real::Optional;
+use lines::{Bits, Floats, Or, Said, Verdict, Words};
+use samples::Generator::Seed;
 use samples::{
-    F_HEIGHTS, F_PAIRS, F_PARENTS, FULL, NONE, START, THEN_ZERO, UPPER, ZERO, ZEROS, after,
-    generator, infinity, largest, nan, over_one, smallest, tuned, under_one, under_tuning,
+    F_HEIGHTS, F_PAIRS, F_PARENTS, FULL, Generator, NONE, OVER_ONE, SMALLEST, START, THEN_ZERO,
+    UNDER_ONE, UNDER_TUNING, UPPER, ZERO, ZEROS,
 };
-use scales::{OptionalScaled, SpeciationScaled};
+use scales::Scaled;
+use speciation::Speciation::{BirthDeath, Yule};
 use speciation::{Density, Speciation};
-use std::io;
+use std::alloc::Global;
+use std::fmt::Display;
 use std::io::{BufWriter, Write};
+use std::{fmt, io};
+use tree::Tree;
 
 // The rates of a clock of five nodes.
 const RATES: [f64; 4] = [1.0, 2.0, 0.5, 1.5];
 
-// A move: its tuning to start with, and whether it changes the process, the tree and the topology.
-fn row(out: &mut impl Write, name: &str, of: Move) -> io::Result<()> {
-    write!(out, "{name}")?;
-    optional(out, of.initial_tuning())?;
-    flag(out, of.changes_fbd())?;
-    flag(out, of.changes_tree())?;
-    flag(out, of.changes_topology())?;
-    writeln!(out)
+// The moves with their names.
+const MOVES: [(&str, Move); 25] = [
+    ("FbdBirthScale", Move::FbdBirthScale),
+    ("FbdDeathScale", Move::FbdDeathScale),
+    ("FbdSamplingScale", Move::FbdSamplingScale),
+    ("FbdRhoLogit", Move::FbdRhoLogit),
+    ("FbdOriginScale", Move::FbdOriginScale),
+    ("TipAge", Move::TipAge),
+    ("ClockRateScale", Move::ClockRateScale),
+    ("NodeHeight", Move::NodeHeight),
+    ("SubtreeSlide", Move::SubtreeSlide),
+    ("NarrowExchange", Move::NarrowExchange),
+    ("WideExchange", Move::WideExchange),
+    ("WilsonBalding", Move::WilsonBalding),
+    ("RootScale", Move::RootScale),
+    ("TreeScale", Move::TreeScale),
+    ("BirthDifferenceScale", Move::BirthDifferenceScale),
+    ("RelativeDeathScale", Move::RelativeDeathScale),
+    ("GammaShapeScale", Move::GammaShapeScale),
+    ("ClockSigmaScale", Move::ClockSigmaScale),
+    ("BranchRateScale", Move::BranchRateScale),
+    ("NodeTimeRates", Move::NodeTimeRates),
+    ("RootTimeRates", Move::RootTimeRates),
+    ("ClockSigmaRates", Move::ClockSigmaRates),
+    ("NarrowExchangeRates", Move::NarrowExchangeRates),
+    ("BirthRateScale", Move::BirthRateScale),
+    ("MorphologyRateScale", Move::MorphologyRateScale),
+];
+
+fn optional(x: Option<f64>) -> Or<'static, Bits> {
+    Or(x.map(Bits), "-")
 }
 
-fn process_moves(out: &mut impl Write) -> io::Result<()> {
-    row(out, "FbdBirthScale", Move::FbdBirthScale)?;
-    row(out, "FbdDeathScale", Move::FbdDeathScale)?;
-    row(out, "FbdSamplingScale", Move::FbdSamplingScale)?;
-    row(out, "FbdRhoLogit", Move::FbdRhoLogit)?;
-    row(out, "FbdOriginScale", Move::FbdOriginScale)?;
-    row(out, "TipAge", Move::TipAge)?;
-    row(out, "ClockRateScale", Move::ClockRateScale)
+// Of each move its tuning to start with, and whether it changes the process, the tree and the topology.
+fn moves(out: &mut impl Write) -> io::Result<()> {
+    for (name, of) in MOVES {
+        writeln!(
+            out,
+            "{name} {} {} {} {}",
+            optional(of.initial_tuning()),
+            of.changes_fbd() as u8,
+            of.changes_tree() as u8,
+            of.changes_topology() as u8
+        )?;
+    }
+    Ok(())
 }
 
-fn tree_moves(out: &mut impl Write) -> io::Result<()> {
-    row(out, "NodeHeight", Move::NodeHeight)?;
-    row(out, "SubtreeSlide", Move::SubtreeSlide)?;
-    row(out, "NarrowExchange", Move::NarrowExchange)?;
-    row(out, "WideExchange", Move::WideExchange)?;
-    row(out, "WilsonBalding", Move::WilsonBalding)?;
-    row(out, "RootScale", Move::RootScale)?;
-    row(out, "TreeScale", Move::TreeScale)
-}
-
-fn parameter_moves(out: &mut impl Write) -> io::Result<()> {
-    row(out, "BirthDifferenceScale", Move::BirthDifferenceScale)?;
-    row(out, "RelativeDeathScale", Move::RelativeDeathScale)?;
-    row(out, "GammaShapeScale", Move::GammaShapeScale)?;
-    row(out, "ClockSigmaScale", Move::ClockSigmaScale)?;
-    row(out, "BranchRateScale", Move::BranchRateScale)
-}
-
-fn coupled_moves(out: &mut impl Write) -> io::Result<()> {
-    row(out, "NodeTimeRates", Move::NodeTimeRates)?;
-    row(out, "RootTimeRates", Move::RootTimeRates)?;
-    row(out, "ClockSigmaRates", Move::ClockSigmaRates)?;
-    row(out, "NarrowExchangeRates", Move::NarrowExchangeRates)?;
-    row(out, "BirthRateScale", Move::BirthRateScale)?;
-    row(out, "MorphologyRateScale", Move::MorphologyRateScale)
-}
-
-fn rates_of(out: &mut impl Write, rates: &[f64]) -> io::Result<()> {
-    write!(out, " rates")?;
-    floats(out, rates)
-}
-
-// A clock, at the end of what a call is given.
-fn of_clock(out: &mut impl Write, sigma: f64, rates: &[f64]) -> io::Result<()> {
-    write!(out, " of sigma")?;
-    float(out, sigma)?;
-    rates_of(out, rates)?;
-    write!(out, ": ")
-}
-
-fn new_clock(out: &mut impl Write, sigma: f64, rates: &[f64]) -> io::Result<()> {
-    write!(out, "new clock")?;
-    of_clock(out, sigma, rates)?;
-    verdict(out, rates::new(sigma, rates))?;
-    writeln!(out)
-}
+const CLOCKS: [(f64, &[f64]); 8] = [
+    (0.5, &RATES),
+    // Two rates, the least number.
+    (SMALLEST, &[SMALLEST, f64::MAX]),
+    // One rate.
+    (0.5, &[1.0]),
+    // Sigma 0, a NaN.
+    (0.0, &RATES),
+    (f64::NAN, &RATES),
+    // A rate that is a NaN, infinite, 0.
+    (0.5, &[f64::NAN, 2.0]),
+    (0.5, &[1.0, f64::INFINITY]),
+    (0.5, &[1.0, 0.0, 2.0]),
+];
 
 fn new_clocks(out: &mut impl Write) -> io::Result<()> {
-    new_clock(out, 0.5, &RATES)?;
-    // Two rates, the least number.
-    new_clock(out, smallest(), &[smallest(), largest()])?;
-    // One rate.
-    new_clock(out, 0.5, &[1.0])?;
-    // Sigma 0, a NaN.
-    new_clock(out, 0.0, &RATES)?;
-    new_clock(out, nan(), &RATES)?;
-    // A rate that is a NaN, infinite, 0.
-    new_clock(out, 0.5, &[nan(), 2.0])?;
-    new_clock(out, 0.5, &[1.0, infinity()])?;
-    new_clock(out, 0.5, &[1.0, 0.0, 2.0])
-}
-
-fn branch_rate(out: &mut impl Write, sigma: f64, node: usize, root: usize) -> io::Result<()> {
-    write!(out, "rate of {node} under {root}")?;
-    of_clock(out, sigma, &RATES)?;
-    match rates::branch_rate(sigma, &RATES, node, root) {
-        Rate::At(x) => bits(out, x)?,
-        Rate::Refused(why) => refused(out, why)?,
+    for (sigma, rates) in CLOCKS {
+        let verdict = Verdict(rates::new(sigma, rates));
+        writeln!(
+            out,
+            "new clock of sigma {} rates{}: {verdict}",
+            Bits(sigma),
+            Floats(rates)
+        )?;
     }
-    writeln!(out)
+    Ok(())
 }
 
 fn branch_rates(out: &mut impl Write) -> io::Result<()> {
-    branch_rate(out, 0.5, 1, 4)?;
-    // The root's own.
-    branch_rate(out, 0.5, 4, 4)?;
-    branch_rate(out, 0.5, 3, 3)?;
-    // The last node uses the root's place.
-    branch_rate(out, 0.5, 4, 3)?;
-    // Node or root above the count.
-    branch_rate(out, 0.5, 5, 4)?;
-    branch_rate(out, 0.5, 1, 5)?;
-    // No clock.
-    branch_rate(out, 0.0, 1, 4)
-}
-
-fn stored(out: &mut impl Write, of: Stored) -> io::Result<()> {
-    match of {
-        Stored::Is(true) => write!(out, "stored"),
-        Stored::Is(false) => write!(out, "not stored"),
-        Stored::Refused(why) => refused(out, why),
+    for (sigma, node, root) in [
+        (0.5, 1, 4),
+        // The root's own.
+        (0.5, 4, 4),
+        (0.5, 3, 3),
+        // The last node uses the root's place.
+        (0.5, 4, 3),
+        // Node or root above the count.
+        (0.5, 5, 4),
+        (0.5, 1, 5),
+        // No clock.
+        (0.0, 1, 4),
+    ] {
+        let rate = rates::branch_rate(sigma, &RATES, node, root).map(Bits);
+        writeln!(
+            out,
+            "rate of {node} under {root} of sigma {} rates{}: {}",
+            Bits(sigma),
+            Floats(&RATES),
+            Said(rate)
+        )?;
     }
+    Ok(())
 }
 
-fn set_sigma(out: &mut impl Write, sigma: f64, rates: &[f64], new: f64) -> io::Result<()> {
-    write!(out, "set sigma")?;
-    float(out, new)?;
-    of_clock(out, sigma, rates)?;
-    let r = rates::set_sigma(sigma, rates, new);
-    stored(out, r.stored)?;
-    write!(out, " sigma")?;
-    float(out, r.sigma)?;
-    writeln!(out)
+fn stored_word(is_stored: bool) -> &'static str {
+    if is_stored { "stored" } else { "not stored" }
 }
 
-fn sigmas(out: &mut impl Write) -> io::Result<()> {
-    set_sigma(out, 0.5, &RATES, 0.75)?;
+const SIGMAS: [(f64, &[f64], f64); 6] = [
+    (0.5, &RATES, 0.75),
     // Not stored: 0, infinite, a NaN.
-    set_sigma(out, 0.5, &RATES, 0.0)?;
-    set_sigma(out, 0.5, &RATES, infinity())?;
-    set_sigma(out, 0.5, &RATES, nan())?;
+    (0.5, &RATES, 0.0),
+    (0.5, &RATES, f64::INFINITY),
+    (0.5, &RATES, f64::NAN),
     // No clock.
-    set_sigma(out, nan(), &RATES, 0.75)?;
-    set_sigma(out, 0.5, &[1.0], 0.75)
-}
+    (f64::NAN, &RATES, 0.75),
+    (0.5, &[1.0], 0.75),
+];
 
-fn set_rate(out: &mut impl Write, sigma: f64, index: usize, new: f64) -> io::Result<()> {
-    let mut rates = RATES;
-    write!(out, "set rate {index}")?;
-    float(out, new)?;
-    of_clock(out, sigma, &rates)?;
-    stored(out, rates::set_rate(sigma, &mut rates, index, new))?;
-    rates_of(out, &rates)?;
-    writeln!(out)
+fn set_sigmas(out: &mut impl Write) -> io::Result<()> {
+    for (sigma, rates, new) in SIGMAS {
+        let set = rates::set_sigma(sigma, rates, new);
+        writeln!(
+            out,
+            "set sigma {} of sigma {} rates{}: {} sigma {}",
+            Bits(new),
+            Bits(sigma),
+            Floats(rates),
+            Said(set.stored.map(stored_word)),
+            Bits(set.sigma)
+        )?;
+    }
+    Ok(())
 }
 
 fn set_rates(out: &mut impl Write) -> io::Result<()> {
-    set_rate(out, 0.5, 0, 0.25)?;
-    set_rate(out, 0.5, 3, smallest())?;
-    // Not stored: 0, infinite, a NaN.
-    set_rate(out, 0.5, 1, -0.0)?;
-    set_rate(out, 0.5, 1, infinity())?;
-    set_rate(out, 0.5, 1, nan())?;
-    // An index at the count, whatever the rate.
-    set_rate(out, 0.5, 4, 0.25)?;
-    set_rate(out, 0.5, 4, infinity())?;
-    // No clock.
-    set_rate(out, 0.0, 0, 0.25)
+    for (sigma, index, new) in [
+        (0.5, 0, 0.25),
+        (0.5, 3, SMALLEST),
+        // Not stored: 0, infinite, a NaN.
+        (0.5, 1, -0.0),
+        (0.5, 1, f64::INFINITY),
+        (0.5, 1, f64::NAN),
+        // An index at the count, whatever the rate.
+        (0.5, 4, 0.25),
+        (0.5, 4, f64::INFINITY),
+        // No clock.
+        (0.0, 0, 0.25),
+    ] {
+        let mut rates = RATES;
+        let stored = rates::set_rate(sigma, &mut rates, index, new).map(stored_word);
+        writeln!(
+            out,
+            "set rate {index} {} of sigma {} rates{}: {} rates{}",
+            Bits(new),
+            Bits(sigma),
+            Floats(&RATES),
+            Said(stored),
+            Floats(&rates)
+        )?;
+    }
+    Ok(())
 }
 
-fn density(out: &mut impl Write, of: Density) -> io::Result<()> {
-    match of {
-        Density::MinusInfinity => write!(out, "minus infinity"),
-        Density::Terms(count, rate, product) => {
-            write!(out, "{count}")?;
-            float(out, rate)?;
-            float(out, product)
+#[derive(Clone, Copy)]
+struct Log(Density);
+
+impl Display for Log {
+    fn fmt<W: fmt::Write>(&self, f: &mut fmt::Formatter<W>) -> fmt::Result {
+        match self.0 {
+            Density::MinusInfinity => write!(f, "minus infinity"),
+            Density::Terms(count, rate, product) => {
+                write!(f, "{count} {} {}", Bits(rate), Bits(product))
+            }
         }
-        Density::Refused(why) => refused(out, why),
     }
 }
 
-// The Yule density of F with these heights.
-fn yule_at(out: &mut impl Write, heights: [f64; 5], rate: f64) -> io::Result<()> {
-    write!(out, "yule at")?;
-    float(out, rate)?;
-    write!(out, " on heights")?;
-    floats(out, &heights)?;
-    write!(out, ": ")?;
-    density(
-        out,
-        speciation::yule_log_density(&F_PAIRS, &F_PARENTS, &heights, 4, rate),
-    )?;
-    writeln!(out)
-}
-
-fn yule(out: &mut impl Write, rate: f64) -> io::Result<()> {
-    yule_at(out, F_HEIGHTS, rate)
-}
-
+// The Yule density of F with other heights, and of F slid.
 fn yules(out: &mut impl Write) -> io::Result<()> {
-    // Document 01's case.
-    yule(out, 0.5)?;
-    yule(out, largest())?;
-    // No rate: 0, -1, infinite, a NaN.
-    yule(out, 0.0)?;
-    yule(out, -1.0)?;
-    yule(out, infinity())?;
-    yule(out, nan())
-}
-
-fn yules_at(out: &mut impl Write) -> io::Result<()> {
-    // A tip above 0, and at -0.0.
-    yule_at(out, [0.0, smallest(), 0.0, 1.0, 2.0], 0.5)?;
-    yule_at(out, [0.0, 0.0, -0.0, 1.0, 2.0], 0.5)?;
-    // Each sum is rounded.
-    yule_at(out, [0.0, 0.0, 0.0, 0.1, 0.3], 0.7)?;
-    // Tip 2 above its parent.
-    yule_at(out, [0.0, 0.0, 3.0, 1.0, 2.0], 0.5)
-}
-
-// F when 0 was slid to 3: the root is 3, and its height counts twice.
-fn yule_slid(out: &mut impl Write) -> io::Result<()> {
-    let pairs = [NONE, NONE, NONE, NONE, NONE, NONE, 0, 4, 1, 2];
-    let heights = [0.0, 0.0, 0.0, 3.0, 2.0];
-    write!(out, "yule of F slid: ")?;
-    density(
-        out,
-        speciation::yule_log_density(&pairs, &[3, 4, 4, NONE, 3], &heights, 3, 0.5),
-    )?;
-    writeln!(out)
-}
-
-// The upper end of a scale, its tuning and its supply.
-fn limits(
-    out: &mut impl Write,
-    upper: f64,
-    tuning: f64,
-    seed: u64,
-    allowance: u32,
-) -> io::Result<()> {
-    write!(out, " to")?;
-    float(out, upper)?;
-    tuned(out, tuning, seed, allowance)
-}
-
-fn scale_by(
-    out: &mut impl Write,
-    value: f64,
-    upper: f64,
-    tuning: f64,
-    seed: u64,
-    allowance: u32,
-) -> io::Result<()> {
-    write!(out, "scale")?;
-    float(out, value)?;
-    limits(out, upper, tuning, seed, allowance)?;
-    let r = scales::scale(value, upper, tuning, generator(seed), allowance);
-    proposal(out, r.proposal)?;
-    write!(out, " value")?;
-    float(out, r.value)?;
-    after(out, r.random)
-}
-
-// By at most nine draws.
-fn scale(out: &mut impl Write, value: f64, upper: f64, tuning: f64, seed: u64) -> io::Result<()> {
-    scale_by(out, value, upper, tuning, seed, 9)
-}
-
-fn scales_moved(out: &mut impl Write) -> io::Result<()> {
-    scale(out, 1.0, 10.0, 0.5, START)?;
-    scale(out, 3.0, 10.0, 0.75, 42)?;
-    scale(out, 1.0, 10.0, 1.0, FULL)?;
-    // The factor is the tuning, and the value goes to the upper end.
-    scale(out, 2.0, 1.0, 0.5, ZERO)?;
-    // Down to 0, of either sign.
-    scale(out, smallest(), 0.0, 0.5, ZERO)?;
-    scale(out, -smallest(), 0.0, 0.5, ZERO)
-}
-
-fn scales_declined(out: &mut impl Write) -> io::Result<()> {
-    // Over the upper end.
-    scale(out, 1.0, 1.0, 0.5, FULL)?;
-    scale(out, 2.0, under_one(), 0.5, ZERO)?;
-    scale(out, 1.0, 0.0, 0.5, START)?;
-    // Below 0.
-    scale(out, -1.0, 10.0, 0.5, START)?;
-    // Infinite.
-    scale(out, largest(), largest(), 0.5, FULL)?;
-    // Nothing is drawn at 0.
-    scale(out, 0.0, 10.0, 0.5, START)?;
-    scale(out, -0.0, 10.0, 0.5, START)
-}
-
-fn scales_limited(out: &mut impl Write) -> io::Result<()> {
-    // Tuning 1e-8 and 1, just outside, a NaN.
-    scale(out, 1.0, 10.0, 1e-8, START)?;
-    scale(out, 1.0, 10.0, 1.0, START)?;
-    scale(out, 1.0, 10.0, under_tuning(), START)?;
-    scale(out, 1.0, 10.0, over_one(), START)?;
-    scale(out, 1.0, 10.0, nan(), START)?;
-    // Upper end -1, infinite, -0.0.
-    scale(out, 1.0, -1.0, 0.5, START)?;
-    scale(out, 1.0, infinity(), 0.5, START)?;
-    scale(out, 1.0, -0.0, 0.5, START)
-}
-
-fn scales_limited_more(out: &mut impl Write) -> io::Result<()> {
-    // The value infinite.
-    scale(out, infinity(), 10.0, 0.5, START)?;
-    // The limits hold at 0 too.
-    scale(out, 0.0, 10.0, over_one(), START)?;
-    // Allowance 0, 1, 65535, 65536.
-    scale_by(out, 1.0, 10.0, 0.5, START, 0)?;
-    scale_by(out, 1.0, 10.0, 0.5, START, 1)?;
-    scale_by(out, 1.0, 10.0, 0.5, START, 65535)?;
-    scale_by(out, 1.0, 10.0, 0.5, START, 65536)
-}
-
-fn optional_scaled(out: &mut impl Write, r: OptionalScaled) -> io::Result<()> {
-    proposal(out, r.proposal)?;
-    write!(out, " value")?;
-    optional(out, r.value)?;
-    after(out, r.random)
-}
-
-fn clock_rate(
-    out: &mut impl Write,
-    mean: Optional,
-    tuning: f64,
-    seed: u64,
-    allowance: u32,
-) -> io::Result<()> {
-    write!(out, "clock rate")?;
-    optional(out, mean)?;
-    tuned(out, tuning, seed, allowance)?;
-    optional_scaled(
-        out,
-        scales::clock_rate_scale(mean, tuning, generator(seed), allowance),
-    )
-}
-
-fn clock_rates(out: &mut impl Write) -> io::Result<()> {
-    clock_rate(out, Optional::Given(1.0), 0.5, START, 9)?;
-    clock_rate(out, Optional::Given(0.125), 0.75, 7, 1)?;
-    clock_rate(out, Optional::Given(largest()), 0.5, FULL, 9)?;
-    clock_rate(out, Optional::Given(infinity()), 0.5, START, 9)?;
-    // Without a mean nothing is drawn, within the limits.
-    clock_rate(out, Optional::Missing, 0.5, START, 9)?;
-    clock_rate(out, Optional::Missing, over_one(), START, 9)?;
-    clock_rate(out, Optional::Missing, 0.5, START, 0)
-}
-
-fn speciation(out: &mut impl Write, of: Speciation) -> io::Result<()> {
-    match of {
-        Speciation::Yule(rate) => {
-            write!(out, " yule")?;
-            float(out, rate)
-        }
-        Speciation::BirthDeath(difference, death) => {
-            write!(out, " birth-death")?;
-            float(out, difference)?;
-            float(out, death)
-        }
+    for (heights, rate) in [
+        // Document 01's case.
+        (F_HEIGHTS, 0.5),
+        (F_HEIGHTS, f64::MAX),
+        // No rate: 0, -1, infinite, a NaN.
+        (F_HEIGHTS, 0.0),
+        (F_HEIGHTS, -1.0),
+        (F_HEIGHTS, f64::INFINITY),
+        (F_HEIGHTS, f64::NAN),
+        // A tip above 0, and at -0.0.
+        ([0.0, SMALLEST, 0.0, 1.0, 2.0], 0.5),
+        ([0.0, 0.0, -0.0, 1.0, 2.0], 0.5),
+        // Each sum is rounded.
+        ([0.0, 0.0, 0.0, 0.1, 0.3], 0.7),
+        // Tip 2 above its parent.
+        ([0.0, 0.0, 3.0, 1.0, 2.0], 0.5),
+    ] {
+        let tree = Tree {
+            pairs: &F_PAIRS,
+            parents: &F_PARENTS,
+            heights: &heights,
+            root: 4,
+        };
+        let density = Said(speciation::yule_log_density(&tree, rate).map(Log));
+        writeln!(
+            out,
+            "yule at {} on heights{}: {density}",
+            Bits(rate),
+            Floats(&heights)
+        )?;
     }
-}
-
-fn speciation_scaled(out: &mut impl Write, r: SpeciationScaled) -> io::Result<()> {
-    proposal(out, r.proposal)?;
-    speciation(out, r.speciation)?;
-    after(out, r.random)
-}
-
-fn birth_difference(
-    out: &mut impl Write,
-    of: Speciation,
-    upper: f64,
-    tuning: f64,
-    seed: u64,
-) -> io::Result<()> {
-    write!(out, "birth difference")?;
-    speciation(out, of)?;
-    limits(out, upper, tuning, seed, 9)?;
-    speciation_scaled(
-        out,
-        scales::birth_difference_scale(of, upper, tuning, generator(seed), 9),
-    )
-}
-
-fn birth_differences(out: &mut impl Write) -> io::Result<()> {
-    birth_difference(out, Speciation::BirthDeath(1.0, 2.0), 10.0, 0.75, 42)?;
-    birth_difference(out, Speciation::BirthDeath(1.0, 0.5), 1.0, 0.5, FULL)?;
-    // A rate that is infinite.
-    birth_difference(
-        out,
-        Speciation::BirthDeath(1.0, infinity()),
-        10.0,
-        0.5,
-        START,
-    )?;
-    birth_difference(
-        out,
-        Speciation::BirthDeath(infinity(), 0.5),
-        10.0,
-        0.5,
-        START,
-    )?;
-    // A Yule process.
-    birth_difference(out, Speciation::Yule(1.0), 10.0, 0.5, START)?;
-    birth_difference(out, Speciation::Yule(nan()), 10.0, 0.5, START)?;
-    birth_difference(out, Speciation::Yule(1.0), -1.0, 0.5, START)
-}
-
-fn birth_rate(
-    out: &mut impl Write,
-    of: Speciation,
-    upper: f64,
-    tuning: f64,
-    seed: u64,
-) -> io::Result<()> {
-    write!(out, "birth rate")?;
-    speciation(out, of)?;
-    limits(out, upper, tuning, seed, 9)?;
-    speciation_scaled(
-        out,
-        scales::birth_rate_scale(of, upper, tuning, generator(seed), 9),
-    )
-}
-
-fn birth_rates(out: &mut impl Write) -> io::Result<()> {
-    birth_rate(out, Speciation::Yule(3.0), 10.0, 0.75, 7)?;
-    birth_rate(out, Speciation::Yule(1.0), 1.0, 0.5, FULL)?;
-    birth_rate(out, Speciation::Yule(infinity()), 10.0, 0.5, START)?;
-    // A birth-death process.
-    birth_rate(out, Speciation::BirthDeath(1.0, 0.5), 10.0, 0.5, START)?;
-    birth_rate(out, Speciation::BirthDeath(1.0, nan()), 10.0, 0.5, START)?;
-    birth_rate(out, Speciation::BirthDeath(nan(), 0.5), 10.0, 0.5, START)?;
-    birth_rate(out, Speciation::BirthDeath(1.0, 0.5), 10.0, 2.0, START)
-}
-
-fn relative_death(out: &mut impl Write, of: Speciation, tuning: f64, seed: u64) -> io::Result<()> {
-    write!(out, "relative death")?;
-    speciation(out, of)?;
-    tuned(out, tuning, seed, 9)?;
-    speciation_scaled(
-        out,
-        scales::relative_death_scale(of, tuning, generator(seed), 9),
-    )
-}
-
-fn relative_deaths(out: &mut impl Write) -> io::Result<()> {
-    relative_death(out, Speciation::BirthDeath(2.0, 0.5), 0.75, 42)?;
-    // To 1, and over it.
-    relative_death(out, Speciation::BirthDeath(0.25, 2.0), 0.5, ZERO)?;
-    relative_death(out, Speciation::BirthDeath(0.25, 0.75), 0.5, FULL)?;
-    relative_death(out, Speciation::BirthDeath(2.0, 0.0), 0.5, START)?;
-    // A difference that is infinite.
-    relative_death(out, Speciation::BirthDeath(infinity(), 0.5), 0.5, START)?;
-    // A Yule process.
-    relative_death(out, Speciation::Yule(1.0), 0.5, START)?;
-    relative_death(out, Speciation::Yule(infinity()), 0.5, START)
-}
-
-// The clock of a scale, which may be missing, the tuning and the supply.
-fn timed(
-    out: &mut impl Write,
-    sigma: Optional,
-    rates: &[f64],
-    tuning: f64,
-    seed: u64,
-    allowance: u32,
-) -> io::Result<()> {
-    optional(out, sigma)?;
-    rates_of(out, rates)?;
-    tuned(out, tuning, seed, allowance)
-}
-
-fn clock_sigma(
-    out: &mut impl Write,
-    sigma: Optional,
-    rates: &[f64],
-    tuning: f64,
-    seed: u64,
-    allowance: u32,
-) -> io::Result<()> {
-    write!(out, "clock sigma")?;
-    timed(out, sigma, rates, tuning, seed, allowance)?;
-    optional_scaled(
-        out,
-        clocks::clock_sigma_scale(sigma, rates, tuning, generator(seed), allowance),
-    )
-}
-
-fn clock_sigmas(out: &mut impl Write) -> io::Result<()> {
-    clock_sigma(out, Optional::Given(0.5), &RATES, 0.5, START, 9)?;
-    clock_sigma(out, Optional::Given(0.5), &RATES, 0.75, 7, 1)?;
-    // To the infinite, and to 0.
-    clock_sigma(out, Optional::Given(largest()), &RATES, 0.5, FULL, 9)?;
-    clock_sigma(out, Optional::Given(smallest()), &RATES, 0.5, ZERO, 9)?;
-    // Without a clock its rates are not looked at.
-    clock_sigma(out, Optional::Missing, &[nan()], 0.5, START, 9)?;
-    clock_sigma(out, Optional::Missing, &[], over_one(), START, 9)?;
-    clock_sigma(out, Optional::Missing, &RATES, 0.5, START, 65536)
-}
-
-fn clock_sigmas_refused(out: &mut impl Write) -> io::Result<()> {
-    clock_sigma(out, Optional::Given(0.0), &RATES, 0.5, START, 9)?;
-    clock_sigma(out, Optional::Given(0.5), &[1.0], 0.5, START, 9)?;
-    clock_sigma(out, Optional::Given(0.5), &RATES, under_tuning(), START, 9)
-}
-
-fn rates_scaled(out: &mut impl Write, r: RatesScaled, rates: &[f64]) -> io::Result<()> {
-    proposal(out, r.proposal)?;
-    rates_of(out, rates)?;
-    after(out, r.random)
-}
-
-fn branch_scale(
-    out: &mut impl Write,
-    sigma: Optional,
-    rates: &mut [f64],
-    tuning: f64,
-    seed: u64,
-    allowance: u32,
-) -> io::Result<()> {
-    write!(out, "branch rate")?;
-    timed(out, sigma, rates, tuning, seed, allowance)?;
-    let r = clocks::branch_rate_scale(sigma, rates, tuning, generator(seed), allowance);
-    rates_scaled(out, r, rates)
-}
-
-// On a clock of four rates.
-fn branch_by(out: &mut impl Write, tuning: f64, seed: u64, allowance: u32) -> io::Result<()> {
-    let mut rates = RATES;
-    branch_scale(
-        out,
-        Optional::Given(0.5),
-        &mut rates,
-        tuning,
-        seed,
-        allowance,
-    )
-}
-
-// On a clock of three rates, of which the first is given.
-fn branch_from(out: &mut impl Write, sigma: f64, first: f64, seed: u64) -> io::Result<()> {
-    let mut rates = [first, 2.0, 0.5];
-    branch_scale(out, Optional::Given(sigma), &mut rates, 0.5, seed, 9)
-}
-
-fn branch_scales(out: &mut impl Write) -> io::Result<()> {
-    branch_by(out, 0.5, START, 9)?;
-    branch_by(out, 0.75, 7, 2)?;
-    branch_by(out, 0.5, 2024, 65535)?;
-    branch_by(out, 0.5, UPPER, 9)?;
-    branch_by(out, 0.5, ZEROS, 2)?;
-    branch_from(out, 1.0, 3.0, 7)
-}
-
-fn branch_scales_declined(out: &mut impl Write) -> io::Result<()> {
-    // To the infinite, and to 0.
-    branch_from(out, 1.0, largest(), 18)?;
-    branch_from(out, 1.0, smallest(), THEN_ZERO)?;
-    // Without a clock its rates are not looked at.
-    branch_scale(out, Optional::Missing, &mut [nan()], 0.5, START, 1)?;
-    branch_scale(out, Optional::Missing, &mut [], 0.5, START, 9)?;
-    branch_scale(out, Optional::Missing, &mut [1.0, 2.0], 2.0, START, 9)
-}
-
-fn branch_scales_refused(out: &mut impl Write) -> io::Result<()> {
-    branch_from(out, 0.0, 1.0, START)?;
-    branch_from(out, 1.0, infinity(), START)?;
-    branch_by(out, over_one(), START, 9)?;
-    // Two draws are needed; no number below 3 is drawn.
-    branch_by(out, 0.5, START, 1)?;
-    branch_from(out, 1.0, 3.0, ZEROS)
-}
-
-fn all_moves(out: &mut impl Write) -> io::Result<()> {
-    process_moves(out)?;
-    tree_moves(out)?;
-    parameter_moves(out)?;
-    coupled_moves(out)
-}
-
-fn all_clocks(out: &mut impl Write) -> io::Result<()> {
-    new_clocks(out)?;
-    branch_rates(out)?;
-    sigmas(out)?;
-    set_rates(out)
-}
-
-fn all_densities(out: &mut impl Write) -> io::Result<()> {
-    yules(out)?;
-    yules_at(out)?;
     yule_slid(out)
 }
 
-fn all_scales(out: &mut impl Write) -> io::Result<()> {
-    scales_moved(out)?;
-    scales_declined(out)?;
-    scales_limited(out)?;
-    scales_limited_more(out)?;
-    clock_rates(out)?;
-    birth_differences(out)?;
-    birth_rates(out)?;
-    relative_deaths(out)
+// Of F when 0 was slid to 3, whose root is 3, with a height that counts twice.
+fn yule_slid(out: &mut impl Write) -> io::Result<()> {
+    let slid = Tree {
+        pairs: &[NONE, NONE, NONE, NONE, NONE, NONE, 0, 4, 1, 2],
+        parents: &[3, 4, 4, NONE, 3],
+        heights: &[0.0, 0.0, 0.0, 3.0, 2.0],
+        root: 3,
+    };
+    let density = Said(speciation::yule_log_density(&slid, 0.5).map(Log));
+    writeln!(out, "yule of F slid: {density}")
 }
 
-fn all_clock_scales(out: &mut impl Write) -> io::Result<()> {
-    clock_sigmas(out)?;
-    clock_sigmas_refused(out)?;
-    branch_scales(out)?;
-    branch_scales_declined(out)?;
-    branch_scales_refused(out)
+// What a scale is given besides the parameters: its tuning, its generator and its allowance.
+#[derive(Clone, Copy)]
+struct Limits(f64, Generator, u32);
+
+impl Display for Limits {
+    fn fmt<W: fmt::Write>(&self, f: &mut fmt::Formatter<W>) -> fmt::Result {
+        let Limits(tuning, from, allowance) = *self;
+        write!(f, "by {}, {from}, allowance {allowance}", Bits(tuning))
+    }
+}
+
+// The value, the upper end and the limits of each scale.
+const SCALES: [(f64, f64, Limits); 27] = [
+    (1.0, 10.0, Limits(0.5, START, 9)),
+    (3.0, 10.0, Limits(0.75, Seed(42), 9)),
+    (1.0, 10.0, Limits(1.0, FULL, 9)),
+    // The factor is the tuning, and the value goes to the upper end.
+    (2.0, 1.0, Limits(0.5, ZERO, 9)),
+    // Down to 0, of either sign.
+    (SMALLEST, 0.0, Limits(0.5, ZERO, 9)),
+    (-SMALLEST, 0.0, Limits(0.5, ZERO, 9)),
+    // Declined: over the upper end.
+    (1.0, 1.0, Limits(0.5, FULL, 9)),
+    (2.0, UNDER_ONE, Limits(0.5, ZERO, 9)),
+    (1.0, 0.0, Limits(0.5, START, 9)),
+    // Below 0.
+    (-1.0, 10.0, Limits(0.5, START, 9)),
+    // Infinite.
+    (f64::MAX, f64::MAX, Limits(0.5, FULL, 9)),
+    // Nothing is drawn at 0.
+    (0.0, 10.0, Limits(0.5, START, 9)),
+    (-0.0, 10.0, Limits(0.5, START, 9)),
+    // Tuning 1e-8 and 1, just outside, a NaN.
+    (1.0, 10.0, Limits(1e-8, START, 9)),
+    (1.0, 10.0, Limits(1.0, START, 9)),
+    (1.0, 10.0, Limits(UNDER_TUNING, START, 9)),
+    (1.0, 10.0, Limits(OVER_ONE, START, 9)),
+    (1.0, 10.0, Limits(f64::NAN, START, 9)),
+    // Upper end -1, infinite, -0.0.
+    (1.0, -1.0, Limits(0.5, START, 9)),
+    (1.0, f64::INFINITY, Limits(0.5, START, 9)),
+    (1.0, -0.0, Limits(0.5, START, 9)),
+    // The value infinite.
+    (f64::INFINITY, 10.0, Limits(0.5, START, 9)),
+    // The limits hold at 0 too.
+    (0.0, 10.0, Limits(OVER_ONE, START, 9)),
+    // Allowance 0, 1, 65535, 65536.
+    (1.0, 10.0, Limits(0.5, START, 0)),
+    (1.0, 10.0, Limits(0.5, START, 1)),
+    (1.0, 10.0, Limits(0.5, START, 65535)),
+    (1.0, 10.0, Limits(0.5, START, 65536)),
+];
+
+fn value_scales(out: &mut impl Write) -> io::Result<()> {
+    for (value, upper, limits) in SCALES {
+        let Limits(tuning, from, allowance) = limits;
+        let scaled = scales::scale(value, upper, tuning, from.random(), allowance);
+        writeln!(
+            out,
+            "scale {} to {} {limits}: {} value {} state {}",
+            Bits(value),
+            Bits(upper),
+            Said(scaled.proposal),
+            Bits(scaled.value),
+            Words(scaled.random.state())
+        )?;
+    }
+    Ok(())
+}
+
+// What a call on a value that may be missing gives.
+#[derive(Clone, Copy)]
+struct Rescaled(Scaled<Option<f64>>);
+
+impl Display for Rescaled {
+    fn fmt<W: fmt::Write>(&self, f: &mut fmt::Formatter<W>) -> fmt::Result {
+        let scaled = self.0;
+        let proposal = Said(scaled.proposal);
+        let value = optional(scaled.value);
+        let state = Words(scaled.random.state());
+        write!(f, "{proposal} value {value} state {state}")
+    }
+}
+
+fn clock_rates(out: &mut impl Write) -> io::Result<()> {
+    for (mean, limits) in [
+        (Some(1.0), Limits(0.5, START, 9)),
+        (Some(0.125), Limits(0.75, Seed(7), 1)),
+        (Some(f64::MAX), Limits(0.5, FULL, 9)),
+        (Some(f64::INFINITY), Limits(0.5, START, 9)),
+        // Without a mean nothing is drawn, within the limits.
+        (None, Limits(0.5, START, 9)),
+        (None, Limits(OVER_ONE, START, 9)),
+        (None, Limits(0.5, START, 0)),
+    ] {
+        let Limits(tuning, from, allowance) = limits;
+        let scaled = scales::clock_rate_scale(mean, tuning, from.random(), allowance);
+        writeln!(
+            out,
+            "clock rate {} {limits}: {}",
+            optional(mean),
+            Rescaled(scaled)
+        )?;
+    }
+    Ok(())
+}
+
+#[derive(Clone, Copy)]
+struct Process(Speciation);
+
+impl Display for Process {
+    fn fmt<W: fmt::Write>(&self, f: &mut fmt::Formatter<W>) -> fmt::Result {
+        match self.0 {
+            Yule(rate) => write!(f, "yule {}", Bits(rate)),
+            BirthDeath(difference, death) => {
+                write!(f, "birth-death {} {}", Bits(difference), Bits(death))
+            }
+        }
+    }
+}
+
+// What a call on a process gives.
+#[derive(Clone, Copy)]
+struct Changed(Scaled<Speciation>);
+
+impl Display for Changed {
+    fn fmt<W: fmt::Write>(&self, f: &mut fmt::Formatter<W>) -> fmt::Result {
+        let scaled = self.0;
+        let proposal = Said(scaled.proposal);
+        let process = Process(scaled.value);
+        let state = Words(scaled.random.state());
+        write!(f, "{proposal} {process} state {state}")
+    }
+}
+
+fn birth_differences(out: &mut impl Write) -> io::Result<()> {
+    for (of, upper, tuning, from) in [
+        (BirthDeath(1.0, 2.0), 10.0, 0.75, Seed(42)),
+        (BirthDeath(1.0, 0.5), 1.0, 0.5, FULL),
+        // A rate that is infinite.
+        (BirthDeath(1.0, f64::INFINITY), 10.0, 0.5, START),
+        (BirthDeath(f64::INFINITY, 0.5), 10.0, 0.5, START),
+        // A Yule process.
+        (Yule(1.0), 10.0, 0.5, START),
+        (Yule(f64::NAN), 10.0, 0.5, START),
+        (Yule(1.0), -1.0, 0.5, START),
+    ] {
+        let scaled = scales::birth_difference_scale(of, upper, tuning, from.random(), 9);
+        writeln!(
+            out,
+            "birth difference {} to {} {}: {}",
+            Process(of),
+            Bits(upper),
+            Limits(tuning, from, 9),
+            Changed(scaled)
+        )?;
+    }
+    Ok(())
+}
+
+fn birth_rates(out: &mut impl Write) -> io::Result<()> {
+    for (of, upper, tuning, from) in [
+        (Yule(3.0), 10.0, 0.75, Seed(7)),
+        (Yule(1.0), 1.0, 0.5, FULL),
+        (Yule(f64::INFINITY), 10.0, 0.5, START),
+        // A birth-death process.
+        (BirthDeath(1.0, 0.5), 10.0, 0.5, START),
+        (BirthDeath(1.0, f64::NAN), 10.0, 0.5, START),
+        (BirthDeath(f64::NAN, 0.5), 10.0, 0.5, START),
+        (BirthDeath(1.0, 0.5), 10.0, 2.0, START),
+    ] {
+        let scaled = scales::birth_rate_scale(of, upper, tuning, from.random(), 9);
+        writeln!(
+            out,
+            "birth rate {} to {} {}: {}",
+            Process(of),
+            Bits(upper),
+            Limits(tuning, from, 9),
+            Changed(scaled)
+        )?;
+    }
+    Ok(())
+}
+
+fn relative_deaths(out: &mut impl Write) -> io::Result<()> {
+    for (of, tuning, from) in [
+        (BirthDeath(2.0, 0.5), 0.75, Seed(42)),
+        // To 1, and over it.
+        (BirthDeath(0.25, 2.0), 0.5, ZERO),
+        (BirthDeath(0.25, 0.75), 0.5, FULL),
+        (BirthDeath(2.0, 0.0), 0.5, START),
+        // A difference that is infinite.
+        (BirthDeath(f64::INFINITY, 0.5), 0.5, START),
+        // A Yule process.
+        (Yule(1.0), 0.5, START),
+        (Yule(f64::INFINITY), 0.5, START),
+    ] {
+        let scaled = scales::relative_death_scale(of, tuning, from.random(), 9);
+        let limits = Limits(tuning, from, 9);
+        writeln!(
+            out,
+            "relative death {} {limits}: {}",
+            Process(of),
+            Changed(scaled)
+        )?;
+    }
+    Ok(())
+}
+
+const CLOCK_SIGMAS: [(Option<f64>, &[f64], Limits); 10] = [
+    (Some(0.5), &RATES, Limits(0.5, START, 9)),
+    (Some(0.5), &RATES, Limits(0.75, Seed(7), 1)),
+    // To the infinite, and to 0.
+    (Some(f64::MAX), &RATES, Limits(0.5, FULL, 9)),
+    (Some(SMALLEST), &RATES, Limits(0.5, ZERO, 9)),
+    // Without a clock its rates are not looked at.
+    (None, &[f64::NAN], Limits(0.5, START, 9)),
+    (None, &[], Limits(OVER_ONE, START, 9)),
+    (None, &RATES, Limits(0.5, START, 65536)),
+    // Refused.
+    (Some(0.0), &RATES, Limits(0.5, START, 9)),
+    (Some(0.5), &[1.0], Limits(0.5, START, 9)),
+    (Some(0.5), &RATES, Limits(UNDER_TUNING, START, 9)),
+];
+
+fn clock_sigmas(out: &mut impl Write) -> io::Result<()> {
+    for (sigma, rates, limits) in CLOCK_SIGMAS {
+        let Limits(tuning, from, allowance) = limits;
+        let scaled = clocks::clock_sigma_scale(sigma, rates, tuning, from.random(), allowance);
+        writeln!(
+            out,
+            "clock sigma {} rates{} {limits}: {}",
+            optional(sigma),
+            Floats(rates),
+            Rescaled(scaled)
+        )?;
+    }
+    Ok(())
+}
+
+const BRANCH_RATES: [(Option<f64>, &[f64], Limits); 16] = [
+    (Some(0.5), &RATES, Limits(0.5, START, 9)),
+    (Some(0.5), &RATES, Limits(0.75, Seed(7), 2)),
+    (Some(0.5), &RATES, Limits(0.5, Seed(2024), 65535)),
+    (Some(0.5), &RATES, Limits(0.5, UPPER, 9)),
+    (Some(0.5), &RATES, Limits(0.5, ZEROS, 2)),
+    (Some(1.0), &[3.0, 2.0, 0.5], Limits(0.5, Seed(7), 9)),
+    // Declined: to the infinite, and to 0.
+    (Some(1.0), &[f64::MAX, 2.0, 0.5], Limits(0.5, Seed(18), 9)),
+    (Some(1.0), &[SMALLEST, 2.0, 0.5], Limits(0.5, THEN_ZERO, 9)),
+    // Without a clock its rates are not looked at.
+    (None, &[f64::NAN], Limits(0.5, START, 1)),
+    (None, &[], Limits(0.5, START, 9)),
+    (None, &[1.0, 2.0], Limits(2.0, START, 9)),
+    // Refused.
+    (Some(0.0), &[1.0, 2.0, 0.5], Limits(0.5, START, 9)),
+    (Some(1.0), &[f64::INFINITY, 2.0, 0.5], Limits(0.5, START, 9)),
+    (Some(0.5), &RATES, Limits(OVER_ONE, START, 9)),
+    // Two draws are needed; no number below 3 is drawn.
+    (Some(0.5), &RATES, Limits(0.5, START, 1)),
+    (Some(1.0), &[3.0, 2.0, 0.5], Limits(0.5, ZEROS, 9)),
+];
+
+fn branch_scales(out: &mut impl Write, alloc: Global) -> io::Result<()> {
+    for (sigma, from, limits) in BRANCH_RATES {
+        write!(
+            out,
+            "branch rate {} rates{} {limits}: ",
+            optional(sigma),
+            Floats(from)
+        )?;
+        let mut rates = from.to_vec(alloc)?;
+        let Limits(tuning, random, allowance) = limits;
+        let scaled = clocks::branch_rate_scale(
+            sigma,
+            &mut rates,
+            tuning,
+            random.random(),
+            allowance,
+        );
+        writeln!(
+            out,
+            "{} rates{} state {}",
+            Said(scaled.proposal),
+            Floats(&rates),
+            Words(scaled.random.state())
+        )?;
+    }
+    Ok(())
 }
 
 fn main(rt: HostRuntime) -> io::Result<()> {
     let mut out = BufWriter::new(rt.alloc(), io::writer(&rt))?;
-    all_moves(&mut out)?;
-    all_clocks(&mut out)?;
-    all_densities(&mut out)?;
-    all_scales(&mut out)?;
-    all_clock_scales(&mut out)?;
+    moves(&mut out)?;
+    new_clocks(&mut out)?;
+    branch_rates(&mut out)?;
+    set_sigmas(&mut out)?;
+    set_rates(&mut out)?;
+    yules(&mut out)?;
+    value_scales(&mut out)?;
+    clock_rates(&mut out)?;
+    birth_differences(&mut out)?;
+    birth_rates(&mut out)?;
+    relative_deaths(&mut out)?;
+    clock_sigmas(&mut out)?;
+    branch_scales(&mut out, rt.alloc())?;
     out.flush()
 }

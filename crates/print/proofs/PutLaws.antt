@@ -2,7 +2,7 @@
 use mathlib.Core.Path.{◌≡◌, sym, ap, ◌∙◌}
 use mathlib.Core.List.{List, [], ◌∷◌, ◌++◌, append-nil}
 use Prim.Native.Nat.{ℕ, zero, suc, ◌+◌, ◌-◌, ◌*◌, ◌/◌, ◌%◌, ◌^◌, ◌≤◌, ◌<◌}
-use native.Mathlib.Nat.{zero-add}
+use native.Mathlib.Nat.{add-zero, zero-add}
 use native.Mathlib.Numerals.{add-one}
 use native.Mathlib.Omega.{arith}
 use lib.Dec.{lit≤}
@@ -52,22 +52,27 @@ pub table_at : (d : ℕ) → d < 16 → get_or (bytes "0123456789abcdef") d 0 �
 unfolding digit from
 table_at d h = from_at digit 0 16 d h ∙ ap digit (zero-add d)
 
--- d is the slice and p the place before a digit, and the 16 digits from `at` on fit into d₀, the slice at first; w is what the whole word leaves
-module _ (n : ℕ) (d : List ℕ) (p left : ℕ) (w : Written) (inv : write (written d p) (hex_text left n) ≡ w)
-    (d₀ : List ℕ) (at : ℕ) (fit : at + 16 ≤ length d₀) (long : length d ≡ length d₀) (places : p + left ≡ at + 16) where
-  pub word_next : 0 < left → (digits : List ℕ) → digits ≡ bytes "0123456789abcdef"
-      → write (written (set d p (get_or digits (n / 2 ^ (4 * (left - 1)) % 16) 0)) (p + 1)) (hex_text (left - 1) n) ≡ w
+-- d is the slice before digit k, which goes to at + k, and the 16 digits from `at` on fit into d₀, the slice at first; w is what the whole word leaves
+module _ (n : ℕ) (d : List ℕ) (at k : ℕ) (w : Written) (inv : write (written d (at + k)) (hex_text (16 - k) n) ≡ w)
+    (d₀ : List ℕ) (fit : at + 16 ≤ length d₀) (long : length d ≡ length d₀) where
+  pub word_next : k < 16 → write (written (set d (at + k) (get_or (bytes "0123456789abcdef") (n / 2 ^ (4 * (15 - k)) % 16) 0)) (at + (k + 1))) (hex_text (16 - (k + 1)) n) ≡ w
   unfolding write
-  word_next h digits e =
-      let b = n / 2 ^ (4 * (left - 1)) % 16 in
-      rw (e, table_at b (omega arith), byte_inside d p (digit b) (omega arith)) (rw (hex-next left n h) at inv)
+  word_next h =
+      let b = n / 2 ^ (4 * (15 - k)) % 16 in
+      let some : 0 < 16 - k = omega arith in
+      let less : 16 - k - 1 ≡ 15 - k = omega arith in
+      let same : 16 - (k + 1) ≡ 15 - k = omega arith in
+      let place : at + (k + 1) ≡ at + k + 1 = omega arith in
+      rw (table_at b (omega arith), place, byte_inside d (at + k) (digit b) (omega arith), same) (rw (hex-next (16 - k) n some, less) at inv)
 
-  pub word_end : left ≤ 0 → written d (at + 16) ≡ w
+  pub word_end : 16 ≤ k → k ≤ 16 → written d (at + 16) ≡ w
   unfolding write hex_text
-  word_end h =
-      let e : left ≡ 0 = omega arith in
-      let q : at + 16 ≡ p = omega arith in
-      rw q (rw e at inv)
+  word_end h l =
+      let e : k ≡ 16 = omega arith in
+      rw e at inv
+
+pub word-start : (n : ℕ) (d : List ℕ) (at : ℕ) → write (written d (at + 0)) (hex_text (16 - 0) n) ≡ write (written d at) (hex_text 16 n)
+word-start n d at = rw add-zero
 
 -- a word that was stored in a text of its own
 pub word-own : (n : ℕ) (d text : List ℕ) → length d ≡ 16 → written text 16 ≡ write (written d 0) (word_text n) → (w v : Written) → v ≡ write w text → v ≡ write w (word_text n)
@@ -77,7 +82,7 @@ word-own n d text l e w v ev =
     let whole : written text 16 ≡ written (word_text n ++ drop (0 + length (word_text n)) d) (0 + length (word_text n)) = e ∙ write-fits d 0 (word_text n) (omega arith) in
     rw (← append-nil (word_text n), ← none, ← ap (λ (x : Written). x.bytes) whole) ev
 
-pub ruleset word_laws = (word_next, word_end, word-own)
+pub ruleset word_laws = (word-start, word_next, word_end, word-own)
 
 -- ---- a number
 

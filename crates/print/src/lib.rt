@@ -7,24 +7,25 @@ ghost use Rattle.text.specs.Text.{digit, word_text, decimal_text};
 ghost use Rattle.print.specs.Writing.{written, write_byte, write};
 
 // One byte.
+#[tactic(auto, using(crate::proofs::PutLaws::byte_laws))]
 pub fn put_byte(out: &mut [u8], at: usize, b: u8) -> usize
     ensures { written out.new result ≡ write_byte (written out.old at) b }
 {
     if at < out.len() {
         out[at] = b;
-        return at + 1;
+        at + 1
+    } else {
+        at
     }
-    at
 }
 
+#[tactic(auto, using(crate::proofs::PutLaws::text_laws))]
 pub fn put_text(out: &mut [u8], at: usize, text: &[u8]) -> usize
     ensures { written out.new result ≡ write (written out.old at) text.now }
 {
     let mut place = at;
-    let mut i = 0;
-    while i < text.len() {
-        place = put_byte(&mut *out, place, text[i]);
-        i += 1;
+    for b in text {
+        place = put_byte(out, place, *b);
     }
     place
 }
@@ -32,17 +33,14 @@ pub fn put_text(out: &mut [u8], at: usize, text: &[u8]) -> usize
 // ---- hexadecimal
 
 // A word whose 16 digits fit, so that no place is tested.
+#[tactic(auto, using(crate::proofs::PutLaws::word_laws))]
 fn store_word(out: &mut [u8], at: usize, w: u64)
     requires { at + 16 ≤ length out.old }
     ensures { written out.new (at + 16) ≡ write (written out.old at) (word_text w) }
 {
     let digits = b"0123456789abcdef";
-    let mut place = at;
-    let mut left: u64 = 16;
-    while 0 < left {
-        left -= 1;
-        out[place] = digits[((w >> (4 * left)) % 16) as usize];
-        place += 1;
+    for k in 0..16 {
+        out[at + k] = digits[((w >> (4 * (15 - k))) % 16) as usize];
     }
 }
 
@@ -55,29 +53,21 @@ fn put_word_near_end(out: &mut [u8], at: usize, w: u64) -> usize
     put_text(out, at, &text)
 }
 
-// How many bytes there are from a place of a slice to its end.
-fn room(len: usize, at: usize) -> usize
-    ensures { result ≡ len - at }
-{
-    if at < len {
-        return len - at;
-    }
-    0
-}
-
 // A word in 16 digits.
 pub fn put_word(out: &mut [u8], at: usize, w: u64) -> usize
     ensures { written out.new result ≡ write (written out.old at) (word_text w) }
 {
-    if 16 <= room(out.len(), at) {
+    if 16 <= out.len().saturating_sub(at) {
         store_word(out, at, w);
-        return at + 16;
+        at + 16
+    } else {
+        put_word_near_end(out, at, w)
     }
-    put_word_near_end(out, at, w)
 }
 
 // ---- decimal
 
+#[tactic(auto, using(crate::proofs::PutLaws::decimal_laws))]
 fn put_digit(out: &mut [u8], at: usize, d: u64) -> usize
     requires { d < 10 }
     ensures { written out.new result ≡ write_byte (written out.old at) (digit d) }
@@ -85,12 +75,13 @@ fn put_digit(out: &mut [u8], at: usize, d: u64) -> usize
     put_byte(out, at, (48 + d) as u8)
 }
 
+// By the number of digits, and not by std's formatting, since Newick copies are written by it.
 // A number of two digits, and below of three and of four: all digits but the last, then the last.
 fn put_two(out: &mut [u8], at: usize, n: u64) -> usize
     requires { (10 ≤ n) × (n < 100) }
     ensures { written out.new result ≡ write (written out.old at) (decimal_text n) }
 {
-    let place = put_digit(&mut *out, at, n / 10);
+    let place = put_digit(out, at, n / 10);
     put_digit(out, place, n % 10)
 }
 
@@ -98,7 +89,7 @@ fn put_three(out: &mut [u8], at: usize, n: u64) -> usize
     requires { (100 ≤ n) × (n < 1000) }
     ensures { written out.new result ≡ write (written out.old at) (decimal_text n) }
 {
-    let place = put_two(&mut *out, at, n / 10);
+    let place = put_two(out, at, n / 10);
     put_digit(out, place, n % 10)
 }
 
@@ -106,41 +97,42 @@ fn put_four(out: &mut [u8], at: usize, n: u64) -> usize
     requires { (1000 ≤ n) × (n < 10000) }
     ensures { written out.new result ≡ write (written out.old at) (decimal_text n) }
 {
-    let place = put_three(&mut *out, at, n / 10);
+    let place = put_three(out, at, n / 10);
     put_digit(out, place, n % 10)
 }
 
 // A number of any size.
+#[tactic(auto, using(crate::proofs::PutLaws::decimal_laws))]
 fn put_many(out: &mut [u8], at: usize, n: u64) -> usize
     ensures { written out.new result ≡ write (written out.old at) (decimal_text n) }
 {
     if n < 10 {
         return put_digit(out, at, n);
     }
-    let place = put_many(&mut *out, at, n / 10);
+    let place = put_many(out, at, n / 10);
     put_digit(out, place, n % 10)
 }
 
 // A number without leading zeros. Those of nodes have at most four digits, and need no recursion.
+#[tactic(auto, using(crate::proofs::PutLaws::decimal_laws))]
 pub fn put_decimal(out: &mut [u8], at: usize, n: u64) -> usize
     ensures { written out.new result ≡ write (written out.old at) (decimal_text n) }
 {
     if n < 10 {
-        return put_digit(out, at, n);
+        put_digit(out, at, n)
+    } else if n < 100 {
+        put_two(out, at, n)
+    } else if n < 1000 {
+        put_three(out, at, n)
+    } else if n < 10000 {
+        put_four(out, at, n)
+    } else {
+        put_many(out, at, n)
     }
-    if n < 100 {
-        return put_two(out, at, n);
-    }
-    if n < 1000 {
-        return put_three(out, at, n);
-    }
-    if n < 10000 {
-        return put_four(out, at, n);
-    }
-    put_many(out, at, n)
 }
 
 // How many digits a number of any size has.
+#[tactic(auto, using(crate::proofs::PutLaws::count_laws))]
 fn count_digits(n: u64) -> usize
     ensures { result ≡ length (decimal_text n) }
 {
@@ -154,20 +146,19 @@ fn count_digits(n: u64) -> usize
 }
 
 // How many digits a number has.
+#[tactic(auto, using(crate::proofs::PutLaws::count_laws))]
 pub fn decimal_len(n: u64) -> usize
     ensures { result ≡ length (decimal_text n) }
 {
     if n < 10 {
-        return 1;
+        1
+    } else if n < 100 {
+        2
+    } else if n < 1000 {
+        3
+    } else if n < 10000 {
+        4
+    } else {
+        count_digits(n)
     }
-    if n < 100 {
-        return 2;
-    }
-    if n < 1000 {
-        return 3;
-    }
-    if n < 10000 {
-        return 4;
-    }
-    count_digits(n)
 }

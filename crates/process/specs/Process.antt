@@ -1,41 +1,36 @@
 -- The priors of the fossilized birth–death process: which moves' parameters are estimated, and which priors are in order, along `estimates` and
 -- `ProcessPriors::validate` of dating/process.rs, which document 01 ports as they are; and the limits of the fields. Definitions only. Assumes nothing.
-use Rattle.std.specs.Prelude.{Bool, true, false, not, ◌&&◌, ◌||◌, cond, Float}
+use Rattle.std.specs.Prelude.{Bool, true, false, not, ◌&&◌, ◌||◌, cond, Float, Option, Some, None, Result, Ok, Err}
 use Rattle.std.specs.Float.{binary64}
 use Rattle.std.specs.Float.Ieee.{of_bits}
 use Rattle.std.specs.Float.Ieee.Scale.{finite}
 use Rattle.answer.specs.declared.Refusal.TheVariants.{Parameter}
-use Rattle.real.specs.declared.Optional.{Optional}
-use Rattle.real.specs.declared.Optional.TheVariants as Optionals
 use Rattle.real.specs.Real.{positive}
-use Rattle.tree.specs.declared.Verdict.{Verdict}
-use Rattle.tree.specs.declared.Verdict.TheVariants as Verdicts
 use Rattle.rules.specs.Rules.{within}
 use Rattle.kinds.specs.declared.Move.{Move}
 use Rattle.kinds.specs.declared.Move.TheVariants as Moves
 use Rattle.process.specs.declared.FossilizedBirthDeath.{FossilizedBirthDeath}
-use Rattle.process.specs.declared.Shapes.{Shapes}
-use Rattle.process.specs.declared.Shapes.TheVariants as Shapings
 use Rattle.process.specs.declared.ProcessPriors.{ProcessPriors}
+use Rattle.answer.specs.declared.Refusal.{Refusal}
 
 -- ---- what may be missing
 
-abbrev pub is_given : Optional → Bool
-is_given Optionals.Missing = false
-is_given (Optionals.Given x) = true
+abbrev pub is_given : Option Float → Bool
+is_given None = false
+is_given (Some x) = true
 
-abbrev pub are_given : Shapes → Bool
-are_given Shapings.Missing = false
-are_given (Shapings.Given a b) = true
+abbrev pub are_given : Option (Float × Float) → Bool
+are_given None = false
+are_given (Some (a, b)) = true
 
 -- it passes the test, or it is missing
-abbrev pub passes : (Float → Bool) → Optional → Bool
-passes test Optionals.Missing = true
-passes test (Optionals.Given x) = test x
+abbrev pub passes : (Float → Bool) → Option Float → Bool
+passes test None = true
+passes test (Some x) = test x
 
-abbrev pub both_pass : (Float → Bool) → Shapes → Bool
-both_pass test Shapings.Missing = true
-both_pass test (Shapings.Given a b) = test a && test b
+abbrev pub both_pass : (Float → Bool) → Option (Float × Float) → Bool
+both_pass test None = true
+both_pass test (Some (a, b)) = test a && test b
 
 -- ---- `estimates`
 
@@ -70,7 +65,7 @@ estimates p Moves.MorphologyRateScale = false
 -- ---- `ProcessPriors::validate`
 
 -- the four means
-abbrev pub every_mean : (Optional → Bool) → ProcessPriors → Bool
+abbrev pub every_mean : ((Option Float) → Bool) → ProcessPriors → Bool
 every_mean test p = test p.birth_rate_mean && test p.death_rate_mean && test p.fossil_sampling_rate_mean && test p.origin_excess_mean
 
 -- a beta shape is from 0.001 to 1000
@@ -85,8 +80,8 @@ unfoldable pub priors_fit : ProcessPriors → Bool
 priors_fit p = every_mean (passes positive) p && both_pass shapely p.present_sampling_beta && some_given p
 
 -- "its `Err` is a 5"
-unfoldable pub priors_call : ProcessPriors → Verdict
-priors_call p = cond (priors_fit p) Verdicts.Fine (Verdicts.Refused (Parameter 0))
+unfoldable pub priors_call : ProcessPriors → Result (Unit {0}) Refusal
+priors_call p = cond (priors_fit p) (Ok tt) (Err (Parameter 0))
 
 -- ---- limits
 

@@ -1,21 +1,16 @@
 -- Priors and processes as rows of one statement on the definitions (`process-rows`): which priors are in order, what is estimated, and what is finite. Assumes
 -- nothing.
-use Rattle.std.specs.Prelude.{◌≡◌, refl, true, false, Float}
+use Rattle.std.specs.Prelude.{◌≡◌, refl, true, false, Float, Option, Some, None, Result, Ok, Err}
 use Rattle.std.specs.Float.{nan, binary64}
 use Rattle.std.specs.Float.Ieee.{of_bits, lt, le}
 use Rattle.answer.specs.declared.Refusal.TheVariants.{Parameter}
-use Rattle.real.specs.declared.Optional.{Optional}
-use Rattle.real.specs.declared.Optional.TheVariants.{Missing, Given}
 use Rattle.real.specs.Real as Real
-use Rattle.tree.specs.declared.Verdict.{Verdict}
-use Rattle.tree.specs.declared.Verdict.TheVariants as Verdicts
 use Rattle.rules.specs.Samples.{0·0, 1·0, 2·0}
 use Rattle.kinds.specs.declared.Move.TheVariants as Moves
 use Rattle.process.specs.declared.FossilizedBirthDeath.{FossilizedBirthDeath}
-use Rattle.process.specs.declared.Shapes.{Shapes}
-use Rattle.process.specs.declared.Shapes.TheVariants as Shapings
 use Rattle.process.specs.declared.ProcessPriors.{ProcessPriors}
 use Rattle.process.specs.Process.{estimates, priors_fit, priors_call, priors_finite, process_finite}
+use Rattle.answer.specs.declared.Refusal.{Refusal}
 
 -- ---- floats
 
@@ -38,7 +33,7 @@ over_greatest = of_bits binary64 0x408f_4000_0000_0001
 
 -- ---- priors and processes, by the order of their fields
 
-abbrev priors : Optional → Optional → Optional → Shapes → Optional → ProcessPriors
+abbrev priors : Option Float → Option Float → Option Float → Option (Float × Float) → Option Float → ProcessPriors
 priors birth death sampling shapes origin = record {
   birth_rate_mean = birth;
   death_rate_mean = death;
@@ -51,54 +46,54 @@ abbrev process : Float → Float → Float → Float → Float → FossilizedBir
 process birth death sampling present origin =
     record { birth = birth; death = death; fossil_sampling = sampling; present_sampling = present; origin = origin }
 
-abbrev refusal : Verdict
-refusal = Verdicts.Refused (Parameter 0)
+abbrev refusal : Result (Unit {0}) Refusal
+refusal = Err (Parameter 0)
 
 -- ---- the rows
 
 pub record ProcessRows : Type 0 where
   -- one parameter with a prior is enough
-  pub birth_alone : priors_call (priors (Given 1·0) Missing Missing Shapings.Missing Missing) ≡ Verdicts.Fine
-  pub death_alone : priors_call (priors Missing (Given 1·0) Missing Shapings.Missing Missing) ≡ Verdicts.Fine
-  pub sampling_alone : priors_call (priors Missing Missing (Given 1·0) Shapings.Missing Missing) ≡ Verdicts.Fine
-  pub origin_alone : priors_call (priors Missing Missing Missing Shapings.Missing (Given 1·0)) ≡ Verdicts.Fine
-  pub present_alone : priors_call (priors Missing Missing Missing (Shapings.Given 1·0 2·0) Missing) ≡ Verdicts.Fine
-  pub no_prior : priors_call (priors Missing Missing Missing Shapings.Missing Missing) ≡ refusal
+  pub birth_alone : priors_call (priors (Some 1·0) None None None None) ≡ (Ok tt)
+  pub death_alone : priors_call (priors None (Some 1·0) None None None) ≡ (Ok tt)
+  pub sampling_alone : priors_call (priors None None (Some 1·0) None None) ≡ (Ok tt)
+  pub origin_alone : priors_call (priors None None None None (Some 1·0)) ≡ (Ok tt)
+  pub present_alone : priors_call (priors None None None (Some (1·0, 2·0)) None) ≡ (Ok tt)
+  pub no_prior : priors_call (priors None None None None None) ≡ refusal
   -- a mean is finite and positive
-  pub birth_zero : priors_call (priors (Given 0·0) Missing Missing Shapings.Missing Missing) ≡ refusal
-  pub death_negative : priors_call (priors (Given 1·0) (Given minus_one) Missing Shapings.Missing Missing) ≡ refusal
-  pub sampling_infinite : priors_call (priors (Given 1·0) Missing (Given Real.infinity) Shapings.Missing Missing) ≡ refusal
-  pub origin_nan : priors_call (priors (Given 1·0) Missing Missing Shapings.Missing (Given nan)) ≡ refusal
-  pub origin_zero : priors_call (priors (Given 1·0) Missing Missing Shapings.Missing (Given 0·0)) ≡ refusal
+  pub birth_zero : priors_call (priors (Some 0·0) None None None None) ≡ refusal
+  pub death_negative : priors_call (priors (Some 1·0) (Some minus_one) None None None) ≡ refusal
+  pub sampling_infinite : priors_call (priors (Some 1·0) None (Some Real.infinity) None None) ≡ refusal
+  pub origin_nan : priors_call (priors (Some 1·0) None None None (Some nan)) ≡ refusal
+  pub origin_zero : priors_call (priors (Some 1·0) None None None (Some 0·0)) ≡ refusal
   -- a shape is from 0.001 to 1000
-  pub shapes_at_ends : priors_call (priors Missing Missing Missing (Shapings.Given least_shape greatest_shape) Missing) ≡ Verdicts.Fine
-  pub shapes_at_other_ends : priors_call (priors Missing Missing Missing (Shapings.Given greatest_shape least_shape) Missing) ≡ Verdicts.Fine
-  pub first_under : priors_call (priors Missing Missing Missing (Shapings.Given under_least 1·0) Missing) ≡ refusal
-  pub second_under : priors_call (priors Missing Missing Missing (Shapings.Given 1·0 under_least) Missing) ≡ refusal
-  pub first_over : priors_call (priors Missing Missing Missing (Shapings.Given over_greatest 1·0) Missing) ≡ refusal
-  pub second_over : priors_call (priors Missing Missing Missing (Shapings.Given 1·0 over_greatest) Missing) ≡ refusal
-  pub shape_nan : priors_call (priors Missing Missing Missing (Shapings.Given nan 1·0) Missing) ≡ refusal
-  pub shape_nan_with_mean : priors_call (priors (Given 1·0) Missing Missing (Shapings.Given 1·0 nan) Missing) ≡ refusal
+  pub shapes_at_ends : priors_call (priors None None None (Some (least_shape, greatest_shape)) None) ≡ (Ok tt)
+  pub shapes_at_other_ends : priors_call (priors None None None (Some (greatest_shape, least_shape)) None) ≡ (Ok tt)
+  pub first_under : priors_call (priors None None None (Some (under_least, 1·0)) None) ≡ refusal
+  pub second_under : priors_call (priors None None None (Some (1·0, under_least)) None) ≡ refusal
+  pub first_over : priors_call (priors None None None (Some (over_greatest, 1·0)) None) ≡ refusal
+  pub second_over : priors_call (priors None None None (Some (1·0, over_greatest)) None) ≡ refusal
+  pub shape_nan : priors_call (priors None None None (Some (nan, 1·0)) None) ≡ refusal
+  pub shape_nan_with_mean : priors_call (priors (Some 1·0) None None (Some (1·0, nan)) None) ≡ refusal
   -- each process move asks for the prior of its own field, and no other move has one
-  pub birth_estimated : estimates (priors (Given 1·0) Missing Missing Shapings.Missing Missing) Moves.FbdBirthScale ≡ true
-  pub birth_fixed : estimates (priors Missing (Given 1·0) (Given 1·0) (Shapings.Given 1·0 2·0) (Given 1·0)) Moves.FbdBirthScale ≡ false
-  pub death_estimated : estimates (priors Missing (Given 1·0) Missing Shapings.Missing Missing) Moves.FbdDeathScale ≡ true
-  pub death_fixed : estimates (priors (Given 1·0) Missing (Given 1·0) (Shapings.Given 1·0 2·0) (Given 1·0)) Moves.FbdDeathScale ≡ false
-  pub sampling_estimated : estimates (priors Missing Missing (Given 1·0) Shapings.Missing Missing) Moves.FbdSamplingScale ≡ true
-  pub sampling_fixed : estimates (priors (Given 1·0) (Given 1·0) Missing (Shapings.Given 1·0 2·0) (Given 1·0)) Moves.FbdSamplingScale ≡ false
-  pub present_estimated : estimates (priors Missing Missing Missing (Shapings.Given 1·0 2·0) Missing) Moves.FbdRhoLogit ≡ true
-  pub present_fixed : estimates (priors (Given 1·0) (Given 1·0) (Given 1·0) Shapings.Missing (Given 1·0)) Moves.FbdRhoLogit ≡ false
-  pub origin_estimated : estimates (priors Missing Missing Missing Shapings.Missing (Given 1·0)) Moves.FbdOriginScale ≡ true
-  pub origin_fixed : estimates (priors (Given 1·0) (Given 1·0) (Given 1·0) (Shapings.Given 1·0 2·0) Missing) Moves.FbdOriginScale ≡ false
-  pub other_move : estimates (priors (Given 1·0) (Given 1·0) (Given 1·0) (Shapings.Given 1·0 2·0) (Given 1·0)) Moves.BirthRateScale ≡ false
+  pub birth_estimated : estimates (priors (Some 1·0) None None None None) Moves.FbdBirthScale ≡ true
+  pub birth_fixed : estimates (priors None (Some 1·0) (Some 1·0) (Some (1·0, 2·0)) (Some 1·0)) Moves.FbdBirthScale ≡ false
+  pub death_estimated : estimates (priors None (Some 1·0) None None None) Moves.FbdDeathScale ≡ true
+  pub death_fixed : estimates (priors (Some 1·0) None (Some 1·0) (Some (1·0, 2·0)) (Some 1·0)) Moves.FbdDeathScale ≡ false
+  pub sampling_estimated : estimates (priors None None (Some 1·0) None None) Moves.FbdSamplingScale ≡ true
+  pub sampling_fixed : estimates (priors (Some 1·0) (Some 1·0) None (Some (1·0, 2·0)) (Some 1·0)) Moves.FbdSamplingScale ≡ false
+  pub present_estimated : estimates (priors None None None (Some (1·0, 2·0)) None) Moves.FbdRhoLogit ≡ true
+  pub present_fixed : estimates (priors (Some 1·0) (Some 1·0) (Some 1·0) None (Some 1·0)) Moves.FbdRhoLogit ≡ false
+  pub origin_estimated : estimates (priors None None None None (Some 1·0)) Moves.FbdOriginScale ≡ true
+  pub origin_fixed : estimates (priors (Some 1·0) (Some 1·0) (Some 1·0) (Some (1·0, 2·0)) None) Moves.FbdOriginScale ≡ false
+  pub other_move : estimates (priors (Some 1·0) (Some 1·0) (Some 1·0) (Some (1·0, 2·0)) (Some 1·0)) Moves.BirthRateScale ≡ false
   -- finite: all that is given, and every field
-  pub finite_negative : priors_finite (priors (Given minus_one) Missing Missing (Shapings.Given minus_one 0·0) Missing) ≡ true
-  pub mean_infinite_birth : priors_finite (priors (Given Real.infinity) Missing Missing Shapings.Missing Missing) ≡ false
-  pub mean_infinite_death : priors_finite (priors Missing (Given Real.infinity) Missing Shapings.Missing Missing) ≡ false
-  pub mean_infinite_sampling : priors_finite (priors Missing Missing (Given Real.infinity) Shapings.Missing Missing) ≡ false
-  pub mean_infinite_origin : priors_finite (priors Missing Missing Missing Shapings.Missing (Given Real.infinity)) ≡ false
-  pub first_shape_infinite : priors_finite (priors Missing Missing Missing (Shapings.Given Real.infinity 1·0) Missing) ≡ false
-  pub second_shape_nan : priors_finite (priors Missing Missing Missing (Shapings.Given 1·0 nan) Missing) ≡ false
+  pub finite_negative : priors_finite (priors (Some minus_one) None None (Some (minus_one, 0·0)) None) ≡ true
+  pub mean_infinite_birth : priors_finite (priors (Some Real.infinity) None None None None) ≡ false
+  pub mean_infinite_death : priors_finite (priors None (Some Real.infinity) None None None) ≡ false
+  pub mean_infinite_sampling : priors_finite (priors None None (Some Real.infinity) None None) ≡ false
+  pub mean_infinite_origin : priors_finite (priors None None None None (Some Real.infinity)) ≡ false
+  pub first_shape_infinite : priors_finite (priors None None None (Some (Real.infinity, 1·0)) None) ≡ false
+  pub second_shape_nan : priors_finite (priors None None None (Some (1·0, nan)) None) ≡ false
   pub fields_finite : process_finite (process 1·0 minus_one 0·0 2·0 1·0) ≡ true
   pub field_birth : process_finite (process Real.infinity 1·0 1·0 1·0 1·0) ≡ false
   pub field_death : process_finite (process 1·0 nan 1·0 1·0 1·0) ≡ false

@@ -7,29 +7,31 @@ use Prim.Native.Nat.{ℕ, ◌+◌, ◌/◌, ◌≤◌, ◌<◌}
 use native.Mathlib.Omega.{arith}
 use native.Mathlib.Numerals.{add-one}
 use lib.Dec.{eqb}
-use lib.ListN.{length, get_or}
-use lib.Ieee.{Float, nan, lt}
+use lib.ListN.{length, get_or, take}
+use lib.Ieee.{Float, nan, lt, le, binary64, of_bits}
+use Rattle.std.proofs.lemmas.List.{get_or-take, length-take}
 use borrow.Author.Tests.{lt-ltb, le-ltb}
 use Rattle.tree.specs.PlaceLaws.{next_place}
 use Rattle.tree.specs.Bounded.{every}
 use Rattle.tree.specs.BoundedLaws.{every-step, every-stop}
-use Rattle.quick.specs.Quick.{family, Lent, Reads}
+use Rattle.quick.specs.Quick.{is_mark, is_age, family, Lent, Reads}
 
 -- ---- a loop over the first numbers
+
+-- all is whether the first m pass, of which there are count
+module _ (all : Bool) (m count : ℕ) where
+  pub join_mark : (pairs : List ℕ) → all ≡ every (is_mark pairs) m → m < length (take count pairs) → all && eqb (get_or (take count pairs) m 0) 65535 ≡ every (is_mark pairs) (m + 1)
+  unfolding every
+  join_mark pairs i h = let g = length-take count pairs in rw (add-one, i, get_or-take count pairs m 0 (omega arith))
+
+  pub join_age : (hs : List Float) → all ≡ every (is_age hs) m → m < length (take count hs) → all && le (of_bits binary64 0) (get_or (take count hs) m nan) ≡ every (is_age hs) (m + 1)
+  unfolding every
+  join_age hs i h = let g = length-take count hs in rw (add-one, i, get_or-take count hs m nan (omega arith))
 
 module _ (test : ℕ → Bool) where
   pub join-start : true ≡ every test 0
   unfolding every
   join-start = refl
-
-  -- all is whether the first m pass
-  module _ (all : Bool) (m : ℕ) (i : all ≡ every test m) where
-    pub join_step : all && test m ≡ every test (m + 1)
-    unfolding every
-    join_step = rw (add-one, i)
-
-    pub join-end : (count : ℕ) → m ≤ count → count ≤ m → all ≡ every test count
-    join-end count h k = let z : m ≡ count = omega arith in rw (← z) i
 
   pub each_start : every test 0 ≡ true
   unfolding every
@@ -48,7 +50,7 @@ module _ (test : ℕ → Bool) where
     pub each-end : m ≤ count → count ≤ m → true ≡ every test count
     each-end h k = let z : m ≡ count = omega arith in rw (← z, i)
 
-pub ruleset join_laws = (join-start, join_step, join-end)
+pub ruleset join_laws = (join-start, join_mark, join_age)
 
 pub ruleset each_laws = (each_start, each_step, each-stop, each-end)
 

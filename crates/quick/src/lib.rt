@@ -9,37 +9,37 @@ ghost use Rattle.tree.specs.Given.{sizes_fit, tree_of};
 ghost use Rattle.tree.specs.New.{validated};
 ghost use Rattle.quick.specs.Quick.{is_mark, is_age, family, family_at, strict, Lent, Reads};
 
-use tree::Verdict;
+use answer::Refusal;
+use tree::{MOST_NODES, NO_NODE, Tree};
 
-// Whether the first numbers of the pairs are marks.
+// Whether the first numbers of the pairs are marks. The loop has no way out, so that the compiler may test several at once.
+#[tactic(auto, using(crate::proofs::TestLaws::join_laws))]
 fn are_marks(pairs: &[u16], count: usize) -> bool
     requires { count ≤ length pairs.now }
     ensures { result ≡ every (is_mark pairs.now) count }
 {
     let mut all = true;
-    let mut i = 0;
-    while i < count {
-        all = all & (pairs[i] == 65535);
-        i += 1;
+    for mark in &pairs[..count] {
+        all &= *mark == NO_NODE;
     }
     all
 }
 
-// Whether the first heights are numbers that are not negative.
+// Whether the first heights are numbers that are not negative. As above.
+#[tactic(auto, using(crate::proofs::TestLaws::join_laws))]
 fn are_ages(heights: &[f64], count: usize) -> bool
     requires { count ≤ length heights.now }
     ensures { result ≡ every (is_age heights.now) count }
 {
     let mut all = true;
-    let mut i = 0;
-    while i < count {
-        all = all & (0.0 <= heights[i]);
-        i += 1;
+    for age in &heights[..count] {
+        all &= 0.0 <= *age;
     }
     all
 }
 
 // Whether a node's children are two nodes that have it for their parent and are younger.
+#[tactic(auto, using(tree::specs::PlaceLaws::wide16, crate::proofs::TestLaws::family_laws))]
 fn is_family(pairs: &[u16], parents: &[u16], heights: &[f64], node: usize) -> bool
     requires { Reads pairs.now parents.now heights.now node }
     ensures { result ≡ family (length heights.now) pairs.now parents.now heights.now node }
@@ -47,30 +47,26 @@ fn is_family(pairs: &[u16], parents: &[u16], heights: &[f64], node: usize) -> bo
     let n = heights.len();
     let a = pairs[node + node] as usize;
     let b = pairs[node + node + 1] as usize;
-    if a < n {
-        if b < n {
-            let p = parents[a] as usize;
-            let q = parents[b] as usize;
-            let h = heights[node];
-            return (a != b) & (p == node) & (q == node) & (heights[a] < h) & (heights[b] < h);
-        }
+    if n <= a || n <= b {
         return false;
     }
-    false
+    let p = parents[a] as usize;
+    let q = parents[b] as usize;
+    let h = heights[node];
+    // By `&`: one branch in place of five.
+    (a != b) & (p == node) & (q == node) & (heights[a] < h) & (heights[b] < h)
 }
 
 // Whether that is so of every internal node.
+#[tactic(auto, using(crate::proofs::TestLaws::each_laws))]
 fn are_families(pairs: &[u16], parents: &[u16], heights: &[f64]) -> bool
     requires { Lent pairs.now parents.now heights.now }
     ensures { result ≡ every (family_at (length heights.now) pairs.now parents.now heights.now) (length heights.now / 2) }
 {
     let n = heights.len();
     let tips = (n + 1) / 2;
-    let mut j = 0;
-    while j < n / 2 {
-        if is_family(pairs, parents, heights, tips + j) {
-            j += 1;
-        } else {
+    for j in 0..n / 2 {
+        if !is_family(pairs, parents, heights, tips + j) {
             return false;
         }
     }
@@ -78,39 +74,38 @@ fn are_families(pairs: &[u16], parents: &[u16], heights: &[f64]) -> bool
 }
 
 // Whether pairs and parents have the lengths of a tree that has n heights.
+#[tactic(auto, unfolding(tree::specs::Given::sizes_fit))]
 fn is_sized(n: usize, pairs: usize, parents: usize) -> bool
     ensures { result ≡ sizes_fit n pairs parents n }
 {
-    if n <= 4095 {
-        return (3 <= n) & (n % 2 == 1) & (pairs == n + n) & (parents == n);
-    }
-    false
+    3 <= n && n <= MOST_NODES && n % 2 == 1 && pairs == n + n && parents == n
 }
 
 // Whether the slices and the root are those of one tree in order in which each child is younger than its parent.
+#[tactic(auto, unfolding(crate::specs::Quick::strict, tree::specs::Tree::parent, tree::specs::Tree::height))]
 fn is_strict(pairs: &[u16], parents: &[u16], heights: &[f64], root: usize) -> bool
     requires { Lent pairs.now parents.now heights.now }
     ensures { result ≡ strict (length heights.now) (tree_of pairs.now parents.now heights.now root) }
 {
     let n = heights.len();
-    if root < n {
-        let free = parents[root] == 65535;
-        let finite = heights[root] < f64::from_bits(0x7ff0_0000_0000_0000);
-        let marks = are_marks(pairs, n + 1);
-        let ages = are_ages(heights, (n + 1) / 2);
-        return free & finite & marks & ages & are_families(pairs, parents, heights);
-    }
-    false
+    root < n
+        && parents[root] == NO_NODE
+        && heights[root] < f64::INFINITY
+        && are_marks(pairs, n + 1)
+        && are_ages(heights, (n + 1) / 2)
+        && are_families(pairs, parents, heights)
 }
 
-// Whether the slices and the root are those of one tree in order, as `tree::validate` has it.
-pub fn validate(pairs: &[u16], parents: &[u16], heights: &[f64], root: usize) -> Verdict
-    ensures { result ≡ validated (tree_of pairs.now parents.now heights.now root) }
+// Whether the tree is one in order, as `tree::validate` has it.
+#[tactic(auto, using(crate::proofs::CallLaws::entry_laws))]
+pub fn validate(tree: &Tree<'_>) -> Result<(), Refusal>
+    ensures { result ≡ validated tree.now }
 {
-    if is_sized(heights.len(), pairs.len(), parents.len()) {
-        if is_strict(pairs, parents, heights, root) {
-            return Verdict::Fine;
-        }
+    if is_sized(tree.heights.len(), tree.pairs.len(), tree.parents.len())
+        && is_strict(tree.pairs, tree.parents, tree.heights, tree.root)
+    {
+        Ok(())
+    } else {
+        tree::validate(tree)
     }
-    tree::validate(pairs, parents, heights, root)
 }

@@ -5,12 +5,12 @@ use native.Mathlib.Nat.{mod_self, mod-add-mod}
 use Rattle.words.specs.declared.Wide.{Wide}
 use Rattle.words.specs.Words.{two_words}
 use Rattle.random.specs.Generator.{drawn_word}
-use Rattle.random.specs.Draw.{Number, word, map, fair_low, fair, below, below_other, Drawn, spent, got, onward, pick, supply_of, drawn_number}
+use Rattle.random.specs.Draw.{Number, word, map, fair_low, fair, below, below_other, Drawn, spent, got, onward, pick, supply_of, drawn}
 use Rattle.random.proofs.DrawLaws.{until-spent, until-found, until-again, until-on, below-yields}
 use Rattle.random.proofs.WordLaws.{word_none, word-one}
 use Rattle.random.specs.declared.Random.{Random}
 use Rattle.random.specs.declared.Supply.{Supply}
-use Rattle.random.specs.declared.DrawnWord.{DrawnWord}
+use Rattle.std.specs.Prelude.{Some, None}
 
 -- ---- the low word
 
@@ -51,37 +51,39 @@ module _ (n : ℕ) (g : Random) (left : ℕ) where
   unfolding below pick onward
   none h = rw (until-spent (fair n) word (supply_of g left) (word_none g left h))
 
-  -- the draw, its product with n, whether the low word is fair, and that some number is below the draws left
-  module _ (w : DrawnWord) (ew : w ≡ drawn_word g) (p : Wide) (ep : p ≡ two_words (w.value * n)) (b : Bool) (eb : b ≡ fair_low n p.low) (least : ℕ) (h : least < left) where
-    drawn : pick word (supply_of g left) ≡ got w.value (supply_of w.random (left - 1))
-    drawn = word-one g left (omega arith) ∙ sym (λ i. got (ew i).value (supply_of (ew i).random (left - 1)))
+  -- the draw, its product with n, and whether the low word is fair
+  module _ (w : ℕ × Random) (ew : w ≡ drawn_word g) (p : Wide) (ep : p ≡ two_words (w.0 * n)) (b : Bool) (eb : b ≡ fair_low n p.low) (h : 0 < left) where
+    taken : pick word (supply_of g left) ≡ got w.0 (supply_of w.1 (left - 1))
+    taken = word-one g left h ∙ sym (λ i. got (ew i).0 (supply_of (ew i).1 (left - 1)))
 
-    tested : fair n w.value ≡ b
+    tested : fair n w.0 ≡ b
     unfolding fair
     tested = sym (eb ∙ ap (λ (x : Wide). fair_low n x.low) ep)
 
-    found : b ≡ true → pick (below n) (supply_of g left) ≡ got p.high (supply_of w.random (left - 1))
+    found : b ≡ true → pick (below n) (supply_of g left) ≡ got p.high (supply_of w.1 (left - 1))
     unfolding below pick onward
-    found t = rw (until-found (fair n) word (supply_of g left) w.value (supply_of w.random (left - 1)) drawn (tested ∙ t), ep)
+    found t = rw (until-found (fair n) word (supply_of g left) w.0 (supply_of w.1 (left - 1)) taken (tested ∙ t), ep)
 
-    again : b ≡ false → pick (below n) (supply_of g left) ≡ pick (below n) (supply_of w.random (left - 1))
+    again : b ≡ false → pick (below n) (supply_of g left) ≡ pick (below n) (supply_of w.1 (left - 1))
     unfolding below pick
-    again f = ap (λ (x : Drawn ℕ). onward x (λ k u. got (k * n / 2 ^ 64) u)) (until-again (fair n) word (supply_of g left) w.value (supply_of w.random (left - 1)) drawn (tested ∙ f))
+    again f =
+        ap (λ (x : Drawn ℕ). onward x (λ k u. got (k * n / 2 ^ 64) u))
+        (until-again (fair n) word (supply_of g left) w.0 (supply_of w.1 (left - 1)) taken (tested ∙ f))
 
 -- ---- the loop
 
 -- s₀ is the supply at first; g and left are the generator and the draws left at this turn
 module _ (n : ℕ) (s₀ : Supply) (g : Random) (left : ℕ) (inv : pick (below n) s₀ ≡ pick (below n) (supply_of g left)) where
-  pub below_none : left ≤ 0 → record { ok = false; value = 0; supply = s₀ } ≡ drawn_number s₀ (pick (below n) s₀)
+  pub below_none : left ≤ 0 → None ≡ drawn (pick (below n) s₀)
   below_none h = rw (inv, none n g left h)
 
   -- as above, for the turn's draw
-  module _ (w : DrawnWord) (ew : w ≡ drawn_word g) (p : Wide) (ep : p ≡ two_words (w.value * n)) (b : Bool) (eb : b ≡ fair_low n p.low) (least : ℕ) (h : least < left) where
-    pub below-found : b ≡ true → record { ok = true; value = p.high; supply = supply_of w.random (left - 1) } ≡ drawn_number s₀ (pick (below n) s₀)
-    below-found t = rw (inv, found n g left w ew p ep b eb least h t)
+  module _ (w : ℕ × Random) (ew : w ≡ drawn_word g) (p : Wide) (ep : p ≡ two_words (w.0 * n)) (b : Bool) (eb : b ≡ fair_low n p.low) (h : 0 < left) where
+    pub below-found : b ≡ true → Some (p.high, supply_of w.1 (left - 1)) ≡ drawn (pick (below n) s₀)
+    below-found t = rw (inv, found n g left w ew p ep b eb h t)
 
-    pub below_again : b ≡ false → pick (below n) s₀ ≡ pick (below n) (supply_of w.random (left - 1))
-    below_again f = inv ∙ again n g left w ew p ep b eb least h f
+    pub below_again : b ≡ false → pick (below n) s₀ ≡ pick (below n) (supply_of w.1 (left - 1))
+    below_again f = inv ∙ again n g left w ew p ep b eb h f
 
 pub ruleset below_laws = (below_none, below-found, below_again)
 
@@ -94,33 +96,33 @@ module _ (n base other : ℕ) (s₀ : Supply) (g : Random) (left : ℕ) (inv : p
   abbrev raised : Number
   raised = map (λ k. base + k) (below n)
 
-  pub other_none : left ≤ 0 → record { ok = false; value = 0; supply = s₀ } ≡ drawn_number s₀ (pick (below_other n base other) s₀)
+  pub other_none : left ≤ 0 → None ≡ drawn (pick (below_other n base other) s₀)
   unfolding below_other pick onward
   other_none h = rw (inv, until-spent test raised (supply_of g left) (rw (none n g left h)))
 
   -- as above, for the turn's draw
-  module _ (w : DrawnWord) (ew : w ≡ drawn_word g) (p : Wide) (ep : p ≡ two_words (w.value * n)) (b : Bool) (eb : b ≡ fair_low n p.low) (least : ℕ) (h : least < left) where
-    abbrev next : Supply
-    next = supply_of w.random (left - 1)
+  module _ (w : ℕ × Random) (ew : w ≡ drawn_word g) (p : Wide) (ep : p ≡ two_words (w.0 * n)) (b : Bool) (eb : b ≡ fair_low n p.low) (h : 0 < left) where
+    abbrev after : Supply
+    after = supply_of w.1 (left - 1)
 
-    pub other-unfair : b ≡ false → pick (below_other n base other) s₀ ≡ pick (below_other n base other) next
+    pub other-unfair : b ≡ false → pick (below_other n base other) s₀ ≡ pick (below_other n base other) after
     unfolding below_other pick
-    other-unfair f = inv ∙ until-on test raised (supply_of g left) next (ap (λ (x : Drawn ℕ). onward x (λ k u. got (base + k) u)) (again n g left w ew p ep b eb least h f))
+    other-unfair f = inv ∙ until-on test raised (supply_of g left) after (ap (λ (x : Drawn ℕ). onward x (λ k u. got (base + k) u)) (again n g left w ew p ep b eb h f))
 
     module _ (t : b ≡ true) where
-      raised-found : pick raised (supply_of g left) ≡ got (base + p.high) next
+      raised-found : pick raised (supply_of g left) ≡ got (base + p.high) after
       unfolding pick onward
-      raised-found = rw (found n g left w ew p ep b eb least h t)
+      raised-found = rw (found n g left w ew p ep b eb h t)
 
       pub other_fits : base + n < 2 ^ 64 → Fits w64 (base + p.high)
-      other_fits l = let z = below-yields n (supply_of g left) p.high next (found n g left w ew p ep b eb least h t) in record { fits = omega arith }
+      other_fits l = let z = below-yields n (supply_of g left) p.high after (found n g left w ew p ep b eb h t) in record { fits = omega arith }
 
-      pub other-found : (base + p.high ≡ other → ⊥) → record { ok = true; value = base + p.high; supply = next } ≡ drawn_number s₀ (pick (below_other n base other) s₀)
+      pub other-found : (base + p.high ≡ other → ⊥) → Some (base + p.high, after) ≡ drawn (pick (below_other n base other) s₀)
       unfolding below_other
-      other-found d = rw (inv, until-found test raised (supply_of g left) (base + p.high) next raised-found (rw (ne_eqb (base + p.high) other d)))
+      other-found d = rw (inv, until-found test raised (supply_of g left) (base + p.high) after raised-found (rw (ne_eqb (base + p.high) other d)))
 
-      pub other-passed : base + p.high ≡ other → pick (below_other n base other) s₀ ≡ pick (below_other n base other) next
+      pub other-passed : base + p.high ≡ other → pick (below_other n base other) s₀ ≡ pick (below_other n base other) after
       unfolding below_other
-      other-passed d = inv ∙ until-again test raised (supply_of g left) (base + p.high) next raised-found (rw (eq-eqb (base + p.high) other d))
+      other-passed d = inv ∙ until-again test raised (supply_of g left) (base + p.high) after raised-found (rw (eq-eqb (base + p.high) other d))
 
 pub ruleset other_laws = (other_none, other-unfair, other_fits, other-found, other-passed)

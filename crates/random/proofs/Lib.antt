@@ -1,5 +1,4 @@
 -- The laws that the proofs of random share: one for each way through a function.
-mod TestLaws
 mod UnitLaws
 mod StepLaws
 mod BelowLaws

@@ -1,5 +1,5 @@
 -- The starred rows on the generator hold. Assumes nothing.
-use Rattle.std.specs.Prelude.{◌≡◌, ℕ, zero, suc, ◌-◌, ◌≤◌, true, nat_le, refl}
+use Rattle.std.specs.Prelude.{◌≡◌, ℕ, zero, suc, ◌-◌, ◌≤◌, true, nat_le, refl, Ok}
 use Rattle.std.proofs.Math.Bool.{and-eq-true_iff}
 use Rattle.std.proofs.Common.{arith, le-leb}
 use Rattle.std.specs.Int.Count.{count_trailing_zeros}
@@ -8,10 +8,9 @@ use Rattle.words.specs.Words.{rotl}
 use Rattle.answer.specs.declared.Refusal.TheVariants.{Allowance}
 use Rattle.random.specs.Xoshiro.{output, step, stepped}
 use Rattle.random.specs.Generator.{word_of, next, uniform_of}
-use Rattle.random.specs.Draw.{word, fair, below, Drawn, spent, got, onward, word_from, until_from, pick, allowed, supply_of}
+use Rattle.random.specs.Draw.{word, fair, below, spent, got, onward, word_from, until_from, pick, allowed, supply_of}
 use Rattle.random.specs.BelowCall.{below_call}
-use Rattle.random.specs.declared.Below.TheVariants as Answers
-use Rattle.random.specs.Rows.{counting, zeros, RefusedWith, GeneratorRows}
+use Rattle.random.specs.Rows.{zeros, RefusedWith, GeneratorRows}
 
 allowed-true : (allowance : ℕ) → 1 ≤ allowance → allowance ≤ 65535 → allowed allowance ≡ true
 allowed-true a h k = (and-eq-true_iff (nat_le 1 a) (nat_le a 65535)).1 (le-leb 1 a h, le-leb a 65535 k)
@@ -31,7 +30,7 @@ first-below-4 : (left : ℕ) → pick (below 4) (supply_of zeros (suc left)) ≡
 unfolding pick below onward until_from word_from word_of next fair output rotl step stepped
 first-below-4 left = refl
 
-drawn-4 : (allowance : ℕ) → 1 ≤ allowance → allowance ≤ 65535 → below_call zeros 4 allowance ≡ record { answer = Answers.Drawn 0 1; random = zeros }
+drawn-4 : (allowance : ℕ) → 1 ≤ allowance → allowance ≤ 65535 → below_call zeros 4 allowance ≡ (Ok (0, 1), zeros)
 unfolding below_call
 drawn-4 zero h k = absurd (omega arith)
 drawn-4 (suc left) h k =

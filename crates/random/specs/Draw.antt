@@ -1,13 +1,9 @@
 -- Programs of draws, and what it is to run one with a limited number of draws. A program is data, so a law shown by induction on programs
 -- holds for every call that is defined by one. Definitions only; the laws are in DrawLaws. Assumes nothing.
-use Rattle.std.specs.Prelude.{ℕ, zero, suc, ◌+◌, ◌*◌, ◌/◌, ◌%◌, ◌^◌, Bool, true, false, cond, not, ◌&&◌, ◌==◌, from_bits, nat_le, nat_lt, Float}
-use Rattle.std.specs.Float.{binary64}
+use Rattle.std.specs.Prelude.{ℕ, zero, suc, ◌+◌, ◌*◌, ◌/◌, ◌%◌, ◌^◌, Bool, cond, not, ◌&&◌, ◌==◌, nat_le, nat_lt, Float, Option, Some, None}
 use Rattle.random.specs.Generator.{word_of, next, uniform_of, first_side}
 use Rattle.random.specs.declared.Random.{Random}
 use Rattle.random.specs.declared.Supply.{Supply}
-use Rattle.random.specs.declared.DrawnNumber.{DrawnNumber}
-use Rattle.random.specs.declared.DrawnReal.{DrawnReal}
-use Rattle.random.specs.declared.DrawnSide.{DrawnSide}
 
 -- ---- programs
 
@@ -99,16 +95,8 @@ countable n = nat_le 1 n && nat_le n (2 ^ 32)
 abbrev pub allowed : ℕ → Bool
 allowed allowance = nat_le 1 allowance && nat_le allowance 65535
 
--- ---- what the code hands back for a drawn value; where the draws are spent, the supply as it came
+-- ---- what the code hands back for a drawn value: nothing where the draws are spent
 
-abbrev pub drawn_number : Supply → Drawn ℕ → DrawnNumber
-drawn_number s spent = record { ok = false; value = 0; supply = s }
-drawn_number s (got k u) = record { ok = true; value = k; supply = u }
-
-abbrev pub drawn_real : Supply → Drawn Float → DrawnReal
-drawn_real s spent = record { ok = false; value = from_bits binary64 0; supply = s }
-drawn_real s (got x u) = record { ok = true; value = x; supply = u }
-
-abbrev pub drawn_side : Supply → Drawn Bool → DrawnSide
-drawn_side s spent = record { ok = false; value = false; supply = s }
-drawn_side s (got b u) = record { ok = true; value = b; supply = u }
+abbrev pub drawn : {A : Type 0} → Drawn A → Option (A × Supply)
+drawn spent = None
+drawn (got a s) = Some (a, s)

@@ -6,9 +6,6 @@ use Rattle.std.specs.Float.Ieee.{round}
 use Rattle.random.specs.SplitMix.{outputs}
 use Rattle.random.specs.Xoshiro.{output, step}
 use Rattle.random.specs.declared.Random.{Random}
-use Rattle.random.specs.declared.DrawnWord.{DrawnWord}
-use Rattle.random.specs.declared.DrawnUniform.{DrawnUniform}
-use Rattle.random.specs.declared.DrawnCoin.{DrawnCoin}
 
 -- ---- the generator and its steps
 
@@ -47,11 +44,11 @@ first_side w = w / 2 ^ 63 == 1
 
 -- ---- a draw with the generator after it
 
-abbrev pub drawn_word : Random → DrawnWord
-drawn_word g = record { value = word_of g; random = next g }
+abbrev pub drawn_word : Random → ℕ × Random
+drawn_word g = (word_of g, next g)
 
-abbrev pub drawn_uniform : Random → DrawnUniform
-drawn_uniform g = record { value = uniform_of (word_of g); random = next g }
+abbrev pub drawn_uniform : Random → Float × Random
+drawn_uniform g = (uniform_of (word_of g), next g)
 
-abbrev pub drawn_coin : Random → DrawnCoin
-drawn_coin g = record { value = first_side (word_of g); random = next g }
+abbrev pub drawn_coin : Random → Bool × Random
+drawn_coin g = (first_side (word_of g), next g)

@@ -1,14 +1,12 @@
 -- The starred rows of document 01's "Tree F" on the generator, as one record, which the statement of all starred rows can hold as a field.
 -- Assumes nothing.
-use Rattle.std.specs.Prelude.{◌≡◌, ℕ, ◌≤◌, false, [], ◌∷◌, negsuc}
+use Rattle.std.specs.Prelude.{◌≡◌, ℕ, ◌≤◌, false, [], ◌∷◌, negsuc, Ok}
 use Rattle.std.specs.Float.{fin}
 use Rattle.answer.specs.declared.Refusal.{Refusal}
 use Rattle.answer.specs.Answers.{number_of, detail_of}
 use Rattle.random.specs.Generator.{from_state, word_of, next, uniform_of}
-use Rattle.random.specs.Draw.{below, Drawn}
 use Rattle.random.specs.BelowCall.{turned_back, below_call}
 use Rattle.random.specs.declared.Random.{Random}
-use Rattle.random.specs.declared.Below.TheVariants as Answers
 
 -- state 1,2,3,4 and state 0,0,0,0
 abbrev pub counting : Random
@@ -32,6 +30,6 @@ pub record GeneratorRows : Type 0 where
   pub first_uniform : uniform_of (word_of counting) ≡ fin false 5 (negsuc 40)
   -- "State 0,0,0,0: below(4) is 0", at the first draw, which leaves the state as it is
   pub below_4 : (allowance : ℕ) → 1 ≤ allowance → allowance ≤ 65535
-      → below_call zeros 4 allowance ≡ record { answer = Answers.Drawn 0 1; random = zeros }
+      → below_call zeros 4 allowance ≡ (Ok (0, 1), zeros)
   -- "below(3) with any allowance is refusal 6", whose detail is the allowance
   pub below_3 : (allowance : ℕ) → 1 ≤ allowance → allowance ≤ 65535 → RefusedWith 6 allowance zeros 3 allowance

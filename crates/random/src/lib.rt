@@ -8,11 +8,10 @@ ghost use Rattle.std.specs.Float.{binary64};
 ghost use Rattle.std.specs.Float.Ieee.{of_int};
 ghost use Rattle.random.specs.SplitMix.{advance, mix};
 ghost use Rattle.random.specs.Generator.{state_of, from_state, seeded, uniform_of, drawn_word, drawn_uniform, drawn_coin};
-ghost use Rattle.random.specs.Draw.{below, below_other, uniform, coin, fair_low, pick, run, countable, allowed, drawn_number, drawn_real, drawn_side};
+ghost use Rattle.random.specs.Draw.{below, below_other, uniform, coin, fair_low, pick, run, countable, allowed, drawn};
 ghost use Rattle.random.specs.BelowCall.{below_call};
 
 use answer::Refusal;
-use std::num::wrapping_add_u64;
 use words::{rotate_left, wide_mul, wrapping_mul};
 
 // The largest n of `below` is 2^32, the largest allowance 65,535.
@@ -32,46 +31,12 @@ pub struct Random {
     state: [u64; 4],
 }
 
-// A draw, and the generator after it.
-#[derive(Clone, Copy)]
-pub struct DrawnWord {
-    pub value: u64,
-    pub random: Random,
-}
-
-// A uniform on [0, 1), and the generator after it.
-#[derive(Clone, Copy)]
-pub struct DrawnUniform {
-    pub value: f64,
-    pub random: Random,
-}
-
-// A side, true being the first, and the generator after it.
-#[derive(Clone, Copy)]
-pub struct DrawnCoin {
-    pub value: bool,
-    pub random: Random,
-}
-
-// A number with the draws made for it, or a refusal.
-#[derive(Clone, Copy)]
-pub enum Below {
-    Drawn(usize, u32),
-    Refused(Refusal),
-}
-
-// The answer of `below`, and the generator after it; after a refusal, the generator as it came.
-#[derive(Clone, Copy)]
-pub struct DrawnBelow {
-    pub answer: Below,
-    pub random: Random,
-}
-
 // The seed mixer's next state.
+#[tactic(auto, unfolding(crate::specs::SplitMix::advance))]
 fn advanced(x: u64) -> u64
     ensures { result ≡ advance x }
 {
-    wrapping_add_u64(x, 0x9e37_79b9_7f4a_7c15)
+    x.wrapping_add(0x9e37_79b9_7f4a_7c15)
 }
 
 // The seed mixer's output at a state.
@@ -85,6 +50,7 @@ fn mixed(x: u64) -> u64
 
 // A draw's top 53 bits as a float, exactly: the lower 52 are put into the last places of 2^52, and 2^52 is taken off where the top bit is 0. Where it is
 // 1, that 2^52 is its own. A cast of the bits would wait for whatever its register held before, as the compiler casts.
+#[tactic(auto, using(crate::proofs::UnitLaws::unit_laws))]
 fn numerator(w: u64) -> f64
     ensures { result ≡ of_int binary64 (pos (w / 2 ^ 11)) }
 {
@@ -94,6 +60,7 @@ fn numerator(w: u64) -> f64
 }
 
 // A draw's top 53 bits over 2^53, by a product: nothing divides.
+#[tactic(auto, using(crate::proofs::UnitLaws::unit_laws))]
 fn unit(w: u64) -> f64
     ensures { result ≡ uniform_of w }
 {
@@ -126,80 +93,53 @@ impl Random {
         Random { state }
     }
 
-    pub fn next_u64(self) -> DrawnWord
+    // The next word, and the generator after it.
+    #[tactic(auto, using(crate::proofs::StepLaws::step_laws))]
+    pub fn next_u64(self) -> (u64, Random)
         ensures { result ≡ drawn_word self }
     {
-        let s = self.state;
-        let s0 = s[0];
-        let s1 = s[1];
-        let s2 = s[2];
-        let s3 = s[3];
-        let value = wrapping_add_u64(rotate_left(wrapping_add_u64(s0, s3), 23), s0);
+        let [s0, s1, s2, s3] = self.state;
+        let word = rotate_left(s0.wrapping_add(s3), 23).wrapping_add(s0);
         let t = s1 << 17;
         let u2 = s2 ^ s0;
         let u3 = s3 ^ s1;
-        let v1 = s1 ^ u2;
-        let v0 = s0 ^ u3;
-        let v2 = u2 ^ t;
-        let v3 = rotate_left(u3, 45);
-        DrawnWord {
-            value,
-            random: Random {
-                state: [v0, v1, v2, v3],
-            },
-        }
+        let state = [s0 ^ u3, s1 ^ u2, u2 ^ t, rotate_left(u3, 45)];
+        (word, Random { state })
     }
 
     // Uniform on [0, 1), from the top 53 bits.
-    pub fn uniform(self) -> DrawnUniform
+    pub fn uniform(self) -> (f64, Random)
         ensures { result ≡ drawn_uniform self }
     {
-        let w = self.next_u64();
-        let random = w.random;
-        DrawnUniform {
-            value: unit(w.value),
-            random,
-        }
+        let (word, random) = self.next_u64();
+        (unit(word), random)
     }
 
-    // Uniform on 0..n by at most `allowance` draws, without modulo bias (Lemire, 2019).
-    // An n outside 1 to 2^32 or an allowance outside 1 to 65,535 is refused before any draw.
-    pub fn below(self, n: usize, allowance: u32) -> DrawnBelow
-        ensures { result ≡ below_call self n allowance }
-    {
-        if in_limits(n, allowance) {
-            let d = Supply {
-                random: self,
-                left: allowance,
-            }
-            .below(n);
-            if d.ok {
-                let supply = d.supply;
-                let random = supply.random;
-                return DrawnBelow {
-                    answer: Below::Drawn(d.value, allowance - supply.left),
-                    random,
-                };
-            }
-            return DrawnBelow {
-                answer: Below::Refused(Refusal::Allowance(allowance)),
-                random: self,
-            };
-        }
-        DrawnBelow {
-            answer: Below::Refused(Refusal::Parameter(0)),
-            random: self,
-        }
-    }
-
-    pub fn coin(self) -> DrawnCoin
+    // A side, true being the first.
+    #[tactic(auto, unfolding(crate::specs::Generator::first_side))]
+    pub fn coin(self) -> (bool, Random)
         ensures { result ≡ drawn_coin self }
     {
-        let d = self.next_u64();
-        let random = d.random;
-        DrawnCoin {
-            value: d.value >> 63 == 1,
-            random,
+        let (word, random) = self.next_u64();
+        (word >> 63 == 1, random)
+    }
+
+    // Uniform on 0..n by at most `allowance` draws, without modulo bias (Lemire, 2019); with the number, the draws made.
+    // An n outside 1 to 2^32 or an allowance outside 1 to 65,535 is refused before any draw. After a refusal, the generator is as it came.
+    #[tactic(auto, using(crate::proofs::CallLaws::call_laws))]
+    pub fn below(self, n: usize, allowance: u32) -> (Result<(usize, u32), Refusal>, Random)
+        ensures { result ≡ below_call self n allowance }
+    {
+        if !(is_countable(n) && is_allowed(allowance)) {
+            return (Err(Refusal::Parameter(0)), self);
+        }
+        let supply = Supply {
+            random: self,
+            left: allowance,
+        };
+        match supply.below(n) {
+            Some((k, after)) => (Ok((k, allowance - after.left)), after.random),
+            None => (Err(Refusal::Allowance(allowance)), self),
         }
     }
 }
@@ -217,170 +157,88 @@ fn is_countable(n: usize) -> bool
     1 <= n && n <= LARGEST_N
 }
 
-fn in_limits(n: usize, allowance: u32) -> bool
-    ensures { result ≡ countable n && allowed allowance }
-{
-    is_countable(n) && is_allowed(allowance)
-}
-
 // 2^64 mod n: one more than the remainder of 2^64 - 1, which the compiler works out where it is needed and not before.
+#[tactic(auto, using(crate::proofs::BelowLaws::threshold_laws))]
 fn threshold(n: u64) -> u64
     requires { 0 < n }
     ensures { result ≡ 2 ^ 64 % n }
 {
     let below = u64::MAX % n;
-    if below + 1 == n {
-        return 0;
-    }
-    below + 1
+    if below + 1 == n { 0 } else { below + 1 }
 }
 
 // Whether a number below n may be taken that has this low word. The remainder, which is below n, is worked out only where it can matter.
+#[tactic(auto, using(crate::proofs::BelowLaws::fair_laws))]
 fn is_fair(low: u64, n: u64) -> bool
     ensures { result ≡ fair_low n low }
 {
-    if n < 1 {
-        return false;
-    }
-    if n <= low {
-        return true;
-    }
-    threshold(n) <= low
+    1 <= n && (n <= low || threshold(n) <= low)
 }
 
 // A generator with the draws that are left to it, handed from draw to draw within a call. The draws made are those allowed less those left.
+// A draw hands back its value and the supply after it, or nothing where more draws are needed than are left.
 #[derive(Clone, Copy)]
 pub struct Supply {
     pub random: Random,
     pub left: u32,
 }
 
-// A number and the supply after it. Where more draws are needed than are left, `ok` is false and the supply is as it came.
-#[derive(Clone, Copy)]
-pub struct DrawnNumber {
-    pub ok: bool,
-    pub value: usize,
-    pub supply: Supply,
-}
-
-// Likewise a float.
-#[derive(Clone, Copy)]
-pub struct DrawnReal {
-    pub ok: bool,
-    pub value: f64,
-    pub supply: Supply,
-}
-
-// Likewise a side, true being the first.
-#[derive(Clone, Copy)]
-pub struct DrawnSide {
-    pub ok: bool,
-    pub value: bool,
-    pub supply: Supply,
-}
-
 impl Supply {
     // Below 0 there is no number, so that the draws are spent.
-    pub fn below(self, n: usize) -> DrawnNumber
-        ensures { result ≡ drawn_number self (pick (below n) self) }
+    #[tactic(auto, using(crate::proofs::BelowLaws::below_laws))]
+    pub fn below(self, n: usize) -> Option<(usize, Supply)>
+        ensures { result ≡ drawn (pick (below n) self) }
     {
         let mut random = self.random;
-        let mut left = self.left;
-        while 0 < left {
-            let w = random.next_u64();
-            random = w.random;
-            left -= 1;
-            let p = wide_mul(w.value, n as u64);
+        for left in (0..self.left).rev() {
+            let (word, after) = random.next_u64();
+            random = after;
+            let p = wide_mul(word, n as u64);
             if is_fair(p.low, n as u64) {
-                return DrawnNumber {
-                    ok: true,
-                    value: p.high as usize,
-                    supply: Supply { random, left },
-                };
+                return Some((p.high as usize, Supply { random, left }));
             }
         }
-        DrawnNumber {
-            ok: false,
-            value: 0,
-            supply: self,
-        }
+        None
     }
 
     // A number that is `base` more than one below n, drawn again while it is `other`: one loop for both reasons to draw again.
-    pub fn below_other(self, n: usize, base: usize, other: usize) -> DrawnNumber
+    #[tactic(auto, using(crate::proofs::BelowLaws::other_laws))]
+    pub fn below_other(self, n: usize, base: usize, other: usize) -> Option<(usize, Supply)>
         requires { base + n < 2 ^ 64 }
-        ensures { result ≡ drawn_number self (pick (below_other n base other) self) }
+        ensures { result ≡ drawn (pick (below_other n base other) self) }
     {
         let mut random = self.random;
-        let mut left = self.left;
-        while 0 < left {
-            let w = random.next_u64();
-            random = w.random;
-            left -= 1;
-            let p = wide_mul(w.value, n as u64);
+        for left in (0..self.left).rev() {
+            let (word, after) = random.next_u64();
+            random = after;
+            let p = wide_mul(word, n as u64);
             if is_fair(p.low, n as u64) {
                 let value = base + p.high as usize;
                 if value != other {
-                    return DrawnNumber {
-                        ok: true,
-                        value,
-                        supply: Supply { random, left },
-                    };
+                    return Some((value, Supply { random, left }));
                 }
             }
         }
-        DrawnNumber {
-            ok: false,
-            value: 0,
-            supply: self,
-        }
+        None
     }
 
-    pub fn uniform(self) -> DrawnReal
-        ensures { result ≡ drawn_real self (run uniform self) }
+    // Uniform on [0, 1).
+    #[tactic(auto, using(crate::proofs::TakenLaws::taken_laws))]
+    pub fn uniform(self) -> Option<(f64, Supply)>
+        ensures { result ≡ drawn (run uniform self) }
     {
-        let left = self.left;
-        if left < 1 {
-            return DrawnReal {
-                ok: false,
-                value: 0.0,
-                supply: self,
-            };
-        }
-        let random = self.random;
-        let u = random.uniform();
-        let random = u.random;
-        DrawnReal {
-            ok: true,
-            value: u.value,
-            supply: Supply {
-                random,
-                left: left - 1,
-            },
-        }
+        let left = self.left.checked_sub(1)?;
+        let (u, random) = self.random.uniform();
+        Some((u, Supply { random, left }))
     }
 
-    pub fn coin(self) -> DrawnSide
-        ensures { result ≡ drawn_side self (run coin self) }
+    // A side, true being the first.
+    #[tactic(auto, using(crate::proofs::TakenLaws::taken_laws))]
+    pub fn coin(self) -> Option<(bool, Supply)>
+        ensures { result ≡ drawn (run coin self) }
     {
-        let left = self.left;
-        if left < 1 {
-            return DrawnSide {
-                ok: false,
-                value: false,
-                supply: self,
-            };
-        }
-        let random = self.random;
-        let c = random.coin();
-        let random = c.random;
-        DrawnSide {
-            ok: true,
-            value: c.value,
-            supply: Supply {
-                random,
-                left: left - 1,
-            },
-        }
+        let left = self.left.checked_sub(1)?;
+        let (first, random) = self.random.coin();
+        Some((first, Supply { random, left }))
     }
 }

@@ -1,17 +1,12 @@
 -- The relaxed clock: a standard deviation sigma, and "One rate per node but the root", which is also the place of node n − 1 where that is not the
 -- root. What `RelaxedClock::new` makes, the rate of a node's branch, and the two ways to set a part. Definitions only. Assumes nothing.
-use Rattle.std.specs.Prelude.{Bool, true, false, ◌&&◌, cond, List, ℕ, leb, ltb, eqb, length, get_or, set, Float}
+use Rattle.std.specs.Prelude.{Bool, true, false, ◌&&◌, cond, List, ℕ, leb, ltb, eqb, length, get_or, set, Float, Result, Ok, Err}
 use Rattle.std.specs.Float.{nan}
 use Rattle.answer.specs.declared.Refusal.TheVariants.{Parameter}
 use Rattle.real.specs.Real.{one, positive}
-use Rattle.tree.specs.declared.Verdict.{Verdict}
-use Rattle.tree.specs.declared.Verdict.TheVariants as Verdicts
 use Rattle.tree.specs.Bounded.{every}
-use Rattle.rates.specs.declared.Rate.{Rate}
-use Rattle.rates.specs.declared.Rate.TheVariants as Rates
-use Rattle.rates.specs.declared.Stored.{Stored}
-use Rattle.rates.specs.declared.Stored.TheVariants as Stores
 use Rattle.rates.specs.declared.SigmaSet.{SigmaSet}
+use Rattle.answer.specs.declared.Refusal.{Refusal}
 
 -- ---- `RelaxedClock::new`
 
@@ -23,8 +18,8 @@ positive_at rates i = positive (get_or rates i nan)
 unfoldable pub clock_fits : Float → List Float → Bool
 clock_fits sigma rates = positive sigma && leb 2 (length rates) && every (positive_at rates) (length rates)
 
-unfoldable pub new_call : Float → List Float → Verdict
-new_call sigma rates = cond (clock_fits sigma rates) Verdicts.Fine (Verdicts.Refused (Parameter 0))
+unfoldable pub new_call : Float → List Float → Result (Unit {0}) Refusal
+new_call sigma rates = cond (clock_fits sigma rates) (Ok tt) (Err (Parameter 0))
 
 -- ---- `branch_rate`
 
@@ -37,26 +32,26 @@ unfoldable pub rate_of : List Float → ℕ → ℕ → Float
 rate_of rates node root = cond (eqb node root) one (get_or rates (place_of (length rates) node root) nan)
 
 -- "Node or root above the rate count [...] gives refusal 5"
-unfoldable pub branch_rate_call : Float → List Float → ℕ → ℕ → Rate
+unfoldable pub branch_rate_call : Float → List Float → ℕ → ℕ → Result Float Refusal
 branch_rate_call sigma rates node root =
-    cond (clock_fits sigma rates && leb node (length rates) && leb root (length rates)) (Rates.At (rate_of rates node root)) (Rates.Refused (Parameter 0))
+    cond (clock_fits sigma rates && leb node (length rates) && leb root (length rates)) (Ok (rate_of rates node root)) (Err (Parameter 0))
 
 -- ---- `set_sigma`, `set_rate`: "any f64", and whether it was stored
 
 unfoldable pub set_sigma_call : Float → List Float → Float → SigmaSet
 set_sigma_call sigma rates new =
-    cond (clock_fits sigma rates) (record { stored = Stores.Is (positive new); sigma = cond (positive new) new sigma }) (record { stored = Stores.Refused (Parameter 0); sigma = sigma })
+    cond (clock_fits sigma rates) (record { stored = Ok (positive new); sigma = cond (positive new) new sigma }) (record { stored = Err (Parameter 0); sigma = sigma })
 
 -- what `set_rate` leaves: its answer, and the lent rates
 pub record RateSet : Type 0 where
-  pub stored : Stored
+  pub stored : Result Bool Refusal
   pub rates : List Float
 
-abbrev pub rate_set : Stored → List Float → RateSet
+abbrev pub rate_set : Result Bool Refusal → List Float → RateSet
 rate_set stored rates = record { stored = stored; rates = rates }
 
 -- "a `set_rate` index at or past it, gives refusal 5"
 unfoldable pub set_rate_call : Float → List Float → ℕ → Float → RateSet
 set_rate_call sigma rates index new =
-    cond (clock_fits sigma rates && ltb index (length rates)) (cond (positive new) (rate_set (Stores.Is true) (set rates index new)) (rate_set (Stores.Is false) rates))
-    (rate_set (Stores.Refused (Parameter 0)) rates)
+    cond (clock_fits sigma rates && ltb index (length rates)) (cond (positive new) (rate_set (Ok true) (set rates index new)) (rate_set (Ok false) rates))
+    (rate_set (Err (Parameter 0)) rates)

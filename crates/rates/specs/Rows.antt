@@ -1,17 +1,13 @@
 -- Calls with a clock as rows of one statement on the definitions (`rate-rows`): what is a clock, the rate of a branch, and what is stored. Assumes nothing.
-use Rattle.std.specs.Prelude.{◌≡◌, refl, true, false, [], ◌∷◌, Float}
+use Rattle.std.specs.Prelude.{◌≡◌, refl, true, false, [], ◌∷◌, Float, Result, Ok, Err, Bool}
 use Rattle.std.specs.Float.{nan, binary64}
 use Rattle.std.specs.Float.Ieee.{of_bits, lt}
 use Rattle.answer.specs.declared.Refusal.TheVariants.{Parameter}
 use Rattle.real.specs.Real as Real
-use Rattle.tree.specs.declared.Verdict.{Verdict}
-use Rattle.tree.specs.declared.Verdict.TheVariants as Verdicts
 use Rattle.tree.specs.Bounded.{every}
-use Rattle.rates.specs.declared.Rate.TheVariants as Rates
-use Rattle.rates.specs.declared.Stored.{Stored}
-use Rattle.rates.specs.declared.Stored.TheVariants as Stores
 use Rattle.rates.specs.declared.SigmaSet.{SigmaSet}
 use Rattle.rates.specs.Clock.{clock_fits, new_call, rate_of, branch_rate_call, set_sigma_call, rate_set, set_rate_call}
+use Rattle.answer.specs.declared.Refusal.{Refusal}
 
 -- ---- floats
 
@@ -40,17 +36,17 @@ minus_one = of_bits binary64 0xbff0_0000_0000_0000
 
 -- ---- answers
 
-abbrev refusal : Verdict
-refusal = Verdicts.Refused (Parameter 0)
+abbrev refusal : Result (Unit {0}) Refusal
+refusal = Err (Parameter 0)
 
-abbrev sigma_set : Stored → Float → SigmaSet
+abbrev sigma_set : Result Bool Refusal → Float → SigmaSet
 sigma_set stored sigma = record { stored = stored; sigma = sigma }
 
 -- ---- the rows
 
 pub record RateRows : Type 0 where
   -- a clock: two rates or more, all finite and positive, and sigma too
-  pub clock : new_call 0·5 (1·0 ∷ 2·0 ∷ []) ≡ Verdicts.Fine
+  pub clock : new_call 0·5 (1·0 ∷ 2·0 ∷ []) ≡ (Ok tt)
   pub one_rate : new_call 0·5 (1·0 ∷ []) ≡ refusal
   pub sigma_zero : new_call 0·0 (1·0 ∷ 2·0 ∷ []) ≡ refusal
   pub sigma_negative : new_call minus_one (1·0 ∷ 2·0 ∷ []) ≡ refusal
@@ -61,30 +57,30 @@ pub record RateRows : Type 0 where
   pub rate_infinite : new_call 0·5 (1·0 ∷ Real.infinity ∷ []) ≡ refusal
   pub rate_nan : new_call 0·5 (1·0 ∷ nan ∷ []) ≡ refusal
   -- a node's rate, the root's place for the last node, and 1 for the root itself
-  pub own_place : branch_rate_call 0·5 (1·0 ∷ 2·0 ∷ 0·5 ∷ []) 1 3 ≡ Rates.At 2·0
-  pub roots_place : branch_rate_call 0·5 (1·0 ∷ 2·0 ∷ 0·5 ∷ []) 3 1 ≡ Rates.At 2·0
-  pub root_one : branch_rate_call 0·5 (1·0 ∷ 2·0 ∷ 0·5 ∷ []) 2 2 ≡ Rates.At 1·0
-  pub last_root_one : branch_rate_call 0·5 (1·0 ∷ 2·0 ∷ 0·5 ∷ []) 3 3 ≡ Rates.At 1·0
-  pub node_above : branch_rate_call 0·5 (1·0 ∷ 2·0 ∷ 0·5 ∷ []) 4 1 ≡ Rates.Refused (Parameter 0)
-  pub root_above : branch_rate_call 0·5 (1·0 ∷ 2·0 ∷ 0·5 ∷ []) 1 4 ≡ Rates.Refused (Parameter 0)
-  pub rate_of_no_clock : branch_rate_call 0·0 (1·0 ∷ 2·0 ∷ 0·5 ∷ []) 1 3 ≡ Rates.Refused (Parameter 0)
+  pub own_place : branch_rate_call 0·5 (1·0 ∷ 2·0 ∷ 0·5 ∷ []) 1 3 ≡ Ok 2·0
+  pub roots_place : branch_rate_call 0·5 (1·0 ∷ 2·0 ∷ 0·5 ∷ []) 3 1 ≡ Ok 2·0
+  pub root_one : branch_rate_call 0·5 (1·0 ∷ 2·0 ∷ 0·5 ∷ []) 2 2 ≡ Ok 1·0
+  pub last_root_one : branch_rate_call 0·5 (1·0 ∷ 2·0 ∷ 0·5 ∷ []) 3 3 ≡ Ok 1·0
+  pub node_above : branch_rate_call 0·5 (1·0 ∷ 2·0 ∷ 0·5 ∷ []) 4 1 ≡ Err (Parameter 0)
+  pub root_above : branch_rate_call 0·5 (1·0 ∷ 2·0 ∷ 0·5 ∷ []) 1 4 ≡ Err (Parameter 0)
+  pub rate_of_no_clock : branch_rate_call 0·0 (1·0 ∷ 2·0 ∷ 0·5 ∷ []) 1 3 ≡ Err (Parameter 0)
   -- sigma is stored where it is finite and positive
-  pub sigma_stored : set_sigma_call 0·5 (1·0 ∷ 2·0 ∷ []) 2·0 ≡ sigma_set (Stores.Is true) 2·0
-  pub sigma_zero_kept : set_sigma_call 0·5 (1·0 ∷ 2·0 ∷ []) 0·0 ≡ sigma_set (Stores.Is false) 0·5
-  pub sigma_minus_zero_kept : set_sigma_call 0·5 (1·0 ∷ 2·0 ∷ []) −0·0 ≡ sigma_set (Stores.Is false) 0·5
-  pub sigma_negative_kept : set_sigma_call 0·5 (1·0 ∷ 2·0 ∷ []) minus_one ≡ sigma_set (Stores.Is false) 0·5
-  pub sigma_infinite_kept : set_sigma_call 0·5 (1·0 ∷ 2·0 ∷ []) Real.infinity ≡ sigma_set (Stores.Is false) 0·5
-  pub sigma_nan_kept : set_sigma_call 0·5 (1·0 ∷ 2·0 ∷ []) nan ≡ sigma_set (Stores.Is false) 0·5
-  pub sigma_of_no_clock : set_sigma_call 0·5 (1·0 ∷ []) 2·0 ≡ sigma_set (Stores.Refused (Parameter 0)) 0·5
+  pub sigma_stored : set_sigma_call 0·5 (1·0 ∷ 2·0 ∷ []) 2·0 ≡ sigma_set (Ok true) 2·0
+  pub sigma_zero_kept : set_sigma_call 0·5 (1·0 ∷ 2·0 ∷ []) 0·0 ≡ sigma_set (Ok false) 0·5
+  pub sigma_minus_zero_kept : set_sigma_call 0·5 (1·0 ∷ 2·0 ∷ []) −0·0 ≡ sigma_set (Ok false) 0·5
+  pub sigma_negative_kept : set_sigma_call 0·5 (1·0 ∷ 2·0 ∷ []) minus_one ≡ sigma_set (Ok false) 0·5
+  pub sigma_infinite_kept : set_sigma_call 0·5 (1·0 ∷ 2·0 ∷ []) Real.infinity ≡ sigma_set (Ok false) 0·5
+  pub sigma_nan_kept : set_sigma_call 0·5 (1·0 ∷ 2·0 ∷ []) nan ≡ sigma_set (Ok false) 0·5
+  pub sigma_of_no_clock : set_sigma_call 0·5 (1·0 ∷ []) 2·0 ≡ sigma_set (Err (Parameter 0)) 0·5
   -- a rate likewise, at an index below the count
-  pub first_stored : set_rate_call 0·5 (1·0 ∷ 2·0 ∷ 0·5 ∷ []) 0 3·0 ≡ rate_set (Stores.Is true) (3·0 ∷ 2·0 ∷ 0·5 ∷ [])
-  pub last_stored : set_rate_call 0·5 (1·0 ∷ 2·0 ∷ 0·5 ∷ []) 2 3·0 ≡ rate_set (Stores.Is true) (1·0 ∷ 2·0 ∷ 3·0 ∷ [])
-  pub rate_zero_kept : set_rate_call 0·5 (1·0 ∷ 2·0 ∷ 0·5 ∷ []) 1 0·0 ≡ rate_set (Stores.Is false) (1·0 ∷ 2·0 ∷ 0·5 ∷ [])
-  pub rate_infinite_kept : set_rate_call 0·5 (1·0 ∷ 2·0 ∷ 0·5 ∷ []) 1 Real.infinity ≡ rate_set (Stores.Is false) (1·0 ∷ 2·0 ∷ 0·5 ∷ [])
-  pub rate_nan_kept : set_rate_call 0·5 (1·0 ∷ 2·0 ∷ 0·5 ∷ []) 1 nan ≡ rate_set (Stores.Is false) (1·0 ∷ 2·0 ∷ 0·5 ∷ [])
-  pub index_at_count : set_rate_call 0·5 (1·0 ∷ 2·0 ∷ 0·5 ∷ []) 3 3·0 ≡ rate_set (Stores.Refused (Parameter 0)) (1·0 ∷ 2·0 ∷ 0·5 ∷ [])
-  pub index_at_count_nan : set_rate_call 0·5 (1·0 ∷ 2·0 ∷ 0·5 ∷ []) 3 nan ≡ rate_set (Stores.Refused (Parameter 0)) (1·0 ∷ 2·0 ∷ 0·5 ∷ [])
-  pub set_of_no_clock : set_rate_call nan (1·0 ∷ 2·0 ∷ 0·5 ∷ []) 0 3·0 ≡ rate_set (Stores.Refused (Parameter 0)) (1·0 ∷ 2·0 ∷ 0·5 ∷ [])
+  pub first_stored : set_rate_call 0·5 (1·0 ∷ 2·0 ∷ 0·5 ∷ []) 0 3·0 ≡ rate_set (Ok true) (3·0 ∷ 2·0 ∷ 0·5 ∷ [])
+  pub last_stored : set_rate_call 0·5 (1·0 ∷ 2·0 ∷ 0·5 ∷ []) 2 3·0 ≡ rate_set (Ok true) (1·0 ∷ 2·0 ∷ 3·0 ∷ [])
+  pub rate_zero_kept : set_rate_call 0·5 (1·0 ∷ 2·0 ∷ 0·5 ∷ []) 1 0·0 ≡ rate_set (Ok false) (1·0 ∷ 2·0 ∷ 0·5 ∷ [])
+  pub rate_infinite_kept : set_rate_call 0·5 (1·0 ∷ 2·0 ∷ 0·5 ∷ []) 1 Real.infinity ≡ rate_set (Ok false) (1·0 ∷ 2·0 ∷ 0·5 ∷ [])
+  pub rate_nan_kept : set_rate_call 0·5 (1·0 ∷ 2·0 ∷ 0·5 ∷ []) 1 nan ≡ rate_set (Ok false) (1·0 ∷ 2·0 ∷ 0·5 ∷ [])
+  pub index_at_count : set_rate_call 0·5 (1·0 ∷ 2·0 ∷ 0·5 ∷ []) 3 3·0 ≡ rate_set (Err (Parameter 0)) (1·0 ∷ 2·0 ∷ 0·5 ∷ [])
+  pub index_at_count_nan : set_rate_call 0·5 (1·0 ∷ 2·0 ∷ 0·5 ∷ []) 3 nan ≡ rate_set (Err (Parameter 0)) (1·0 ∷ 2·0 ∷ 0·5 ∷ [])
+  pub set_of_no_clock : set_rate_call nan (1·0 ∷ 2·0 ∷ 0·5 ∷ []) 0 3·0 ≡ rate_set (Err (Parameter 0)) (1·0 ∷ 2·0 ∷ 0·5 ∷ [])
 
 -- each by computation
 pub rate-rows : RateRows

@@ -7,26 +7,11 @@ ghost use Rattle.tree.specs.Bounded.{every};
 ghost use Rattle.rates.specs.Clock.{positive_at, clock_fits, new_call, branch_rate_call, set_sigma_call, rate_set, set_rate_call};
 
 use answer::Refusal;
-use tree::Verdict;
-
-// The rate of a branch, or why the call is turned back.
-#[derive(Clone, Copy)]
-pub enum Rate {
-    At(f64),
-    Refused(Refusal),
-}
-
-// Whether a value was stored, or why the call is turned back.
-#[derive(Clone, Copy)]
-pub enum Stored {
-    Is(bool),
-    Refused(Refusal),
-}
 
 // Whether sigma was stored, and sigma after the call.
 #[derive(Clone, Copy)]
 pub struct SigmaSet {
-    pub stored: Stored,
+    pub stored: Result<bool, Refusal>,
     pub sigma: f64,
 }
 
@@ -34,95 +19,76 @@ pub struct SigmaSet {
 fn are_positive(rates: &[f64]) -> bool
     ensures { result ≡ every (positive_at rates.now) (length rates.now) }
 {
-    let mut i = 0;
-    while i < rates.len() {
-        if real::is_positive(rates[i]) {
-            i += 1;
-        } else {
-            return false;
-        }
-    }
-    true
+    rates.iter().all(|rate| real::is_positive(*rate))
 }
 
-// Whether this is a clock.
+// Whether this is a clock: sigma and two rates or more are finite and positive.
+#[tactic(auto, unfolding(crate::specs::Clock::clock_fits))]
 pub fn is_clock(sigma: f64, rates: &[f64]) -> bool
     ensures { result ≡ clock_fits sigma rates.now }
 {
-    if rates.len() < 2 {
-        return false;
-    }
-    real::is_positive(sigma) && are_positive(rates)
+    2 <= rates.len() && real::is_positive(sigma) && are_positive(rates)
 }
 
 // `RelaxedClock::new` on lent rates.
-pub fn new(sigma: f64, rates: &[f64]) -> Verdict
+#[tactic(auto, unfolding(crate::specs::Clock::new_call))]
+pub fn new(sigma: f64, rates: &[f64]) -> Result<(), Refusal>
     ensures { result ≡ new_call sigma rates.now }
 {
     if is_clock(sigma, rates) {
-        return Verdict::Fine;
+        Ok(())
+    } else {
+        Err(Refusal::Parameter(0))
     }
-    Verdict::Refused(Refusal::Parameter(0))
 }
 
-// The rate of a node's branch in a tree with this root.
-pub fn branch_rate(sigma: f64, rates: &[f64], node: usize, root: usize) -> Rate
+// The rate of a node's branch in a tree with this root. The last node has the root's place where it is not the root.
+#[tactic(auto, unfolding(crate::specs::Clock::branch_rate_call, crate::specs::Clock::rate_of))]
+pub fn branch_rate(sigma: f64, rates: &[f64], node: usize, root: usize) -> Result<f64, Refusal>
     ensures { result ≡ branch_rate_call sigma rates.now node root }
 {
     let count = rates.len();
-    if count < node {
-        return Rate::Refused(Refusal::Parameter(0));
+    if count < node || count < root || !is_clock(sigma, rates) {
+        return Err(Refusal::Parameter(0));
     }
-    if count < root {
-        return Rate::Refused(Refusal::Parameter(0));
+    if node == root {
+        Ok(1.0)
+    } else if node == count {
+        Ok(rates[root])
+    } else {
+        Ok(rates[node])
     }
-    if is_clock(sigma, rates) {
-        if node == root {
-            return Rate::At(1.0);
-        }
-        if node == count {
-            return Rate::At(rates[root]);
-        }
-        return Rate::At(rates[node]);
-    }
-    Rate::Refused(Refusal::Parameter(0))
 }
 
 // Sigma becomes `new`, if that is finite and positive.
+#[tactic(auto, unfolding(crate::specs::Clock::set_sigma_call))]
 pub fn set_sigma(sigma: f64, rates: &[f64], new: f64) -> SigmaSet
     ensures { result ≡ set_sigma_call sigma rates.now new }
 {
-    if is_clock(sigma, rates) {
-        if real::is_positive(new) {
-            return SigmaSet {
-                stored: Stored::Is(true),
-                sigma: new,
-            };
-        }
+    if !is_clock(sigma, rates) {
         return SigmaSet {
-            stored: Stored::Is(false),
+            stored: Err(Refusal::Parameter(0)),
             sigma,
         };
     }
+    let stored = real::is_positive(new);
     SigmaSet {
-        stored: Stored::Refused(Refusal::Parameter(0)),
-        sigma,
+        stored: Ok(stored),
+        sigma: if stored { new } else { sigma },
     }
 }
 
 // The rate at an index becomes `new`, if that is finite and positive.
-pub fn set_rate(sigma: f64, rates: &mut [f64], index: usize, new: f64) -> Stored
+#[tactic(auto, unfolding(crate::specs::Clock::set_rate_call))]
+pub fn set_rate(sigma: f64, rates: &mut [f64], index: usize, new: f64) -> Result<bool, Refusal>
     ensures { rate_set result rates.new ≡ set_rate_call sigma rates.old index new }
 {
-    if rates.len() <= index {
-        return Stored::Refused(Refusal::Parameter(0));
+    if rates.len() <= index || !is_clock(sigma, rates) {
+        return Err(Refusal::Parameter(0));
     }
-    if is_clock(sigma, rates) {
-        if real::is_positive(new) {
-            rates[index] = new;
-            return Stored::Is(true);
-        }
-        return Stored::Is(false);
+    let stored = real::is_positive(new);
+    if stored {
+        rates[index] = new;
     }
-    Stored::Refused(Refusal::Parameter(0))
+    Ok(stored)
 }

@@ -1,12 +1,11 @@
 -- The ways through the reads of a slice: a place inside it, or one past its end. Assumes nothing.
-use mathlib.Core.Path.{◌≡◌, refl, sym, ◌∙◌}
+use mathlib.Core.Path.{◌≡◌, sym, ◌∙◌}
 use mathlib.Core.List.{List}
 use Prim.Native.Nat.{ℕ, ◌+◌, ◌-◌, ◌/◌, ◌≤◌}
 use native.Mathlib.Omega.{arith}
 use native.Mathlib.Decide.{dec_le}
 use lib.Dec.{ltb}
 use lib.ListN.{length, get_or, get_or-eq_default}
-use lib.Ieee.{Float, nan, binary64, of_bits}
 use borrow.Author.Tests.{lt-ltb, le-ltb, eq-eqb, ne_eqb}
 use Rattle.tree.specs.Tree.{inner, first_in, second_in, other_in}
 use Rattle.tree.specs.PlaceLaws.{wide16, next_place}
@@ -39,15 +38,4 @@ module _ (pairs : List ℕ) (k : ℕ) where
     pub other-first : (a : ℕ) → a ≡ first_in pairs k → (a ≡ c → ⊥) → a ≡ other_in pairs k c
     other-first a ea h = rw (← ea, ne_eqb a c h)
 
--- ---- parents and heights
-
-pub parent-past : (parents : List ℕ) (k : ℕ) → length parents ≤ k → 0 ≡ get_or parents k 0
-parent-past parents k h = sym (get_or-eq_default parents 0 h)
-
-pub height-past : (heights : List Float) (k : ℕ) → length heights ≤ k → (x : Float) → x ≡ of_bits binary64 0x7ff8_0000_0000_0000 → x ≡ get_or heights k nan
-height-past heights k h x e = e ∙ unread ∙ sym (get_or-eq_default heights nan h)
-  where
-    unread : of_bits binary64 0x7ff8_0000_0000_0000 ≡ nan
-    unread = unfold of_bits in refl
-
-pub ruleset read_laws = (wide16, inner-half, first_past, second_past, second_is, other-second, other-first, parent-past, height-past)
+pub ruleset read_laws = (wide16, inner-half, first_past, second_past, second_is, other-second, other-first)

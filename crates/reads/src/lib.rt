@@ -8,6 +8,7 @@ ghost use Rattle.std.specs.Float.{nan};
 ghost use Rattle.tree.specs.Tree.{inner, first_in, second_in, other_in};
 
 // Whether k is not among the tips of n nodes.
+#[tactic(auto, using(crate::proofs::ReadLaws::read_laws))]
 pub fn is_inner(n: usize, k: usize) -> bool
     ensures { result ≡ inner n k }
 {
@@ -15,52 +16,50 @@ pub fn is_inner(n: usize, k: usize) -> bool
 }
 
 // The first child of a node.
+#[tactic(auto, using(crate::proofs::ReadLaws::read_laws))]
 pub fn first(pairs: &[u16], k: usize) -> usize
     ensures { result ≡ first_in pairs.now k }
 {
+    // By a test of k, since k + k may be too large.
     if k < pairs.len() - pairs.len() / 2 {
-        return pairs[k + k] as usize;
+        pairs[k + k] as usize
+    } else {
+        0
     }
-    0
 }
 
 // The second child of a node.
+#[tactic(auto, using(crate::proofs::ReadLaws::read_laws))]
 pub fn second(pairs: &[u16], k: usize) -> usize
     ensures { result ≡ second_in pairs.now k }
 {
     if k < pairs.len() / 2 {
-        return pairs[k + k + 1] as usize;
+        pairs[k + k + 1] as usize
+    } else {
+        0
     }
-    0
 }
 
 // The child of p that is not k.
+#[tactic(auto, using(crate::proofs::ReadLaws::read_laws))]
 pub fn other(pairs: &[u16], p: usize, k: usize) -> usize
     ensures { result ≡ other_in pairs.now p k }
 {
     let a = first(pairs, p);
-    if a == k {
-        return second(pairs, p);
-    }
-    a
+    if a == k { second(pairs, p) } else { a }
 }
 
 // The parent of a node.
 pub fn parent(parents: &[u16], k: usize) -> usize
     ensures { result ≡ get_or parents.now k 0 }
 {
-    if k < parents.len() {
-        return parents[k] as usize;
-    }
-    0
+    parents.get(k).map_or(0, |parent| *parent as usize)
 }
 
 // The height of a node.
+#[tactic(auto, using(real::specs::NumberLaws::nan_is))]
 pub fn height(heights: &[f64], k: usize) -> f64
     ensures { result ≡ get_or heights.now k nan }
 {
-    if k < heights.len() {
-        return heights[k];
-    }
-    real::of_bits(0x7ff8_0000_0000_0000)
+    heights.get(k).copied().unwrap_or(f64::NAN)
 }

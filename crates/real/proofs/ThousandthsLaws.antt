@@ -1,24 +1,24 @@
 -- The ways through `thousandths` and `print_age`: the whole thousandths of an age, from the fields of its bits. Assumes nothing.
 use mathlib.Core.Path.{◌≡◌, refl, sym, ap, ◌∙◌, subst}
-use mathlib.Core.Bool.{true, false, not}
+use mathlib.Core.Bool.{true, false, not, true≢false}
 use Prim.Native.Nat.{ℕ, ◌+◌, ◌-◌, ◌*◌, ◌/◌, ◌^◌, ◌≤◌, ◌<◌}
 use native.Mathlib.Nat.{le_of_eq, lt_irrefl, lt_of_le_of_lt, lt_of_lt_of_le, lt_of_not-le, mod-lt, div-eq_of_lt, le-add_right, mul_assoc, mul_right_comm, mul-le-mul_right, mul-lt-mul_of_pos_right}
 use native.Mathlib.Omega.{arith}
 use lib.Dec.{T, ltb→lt, lit<, lit≤}
 use lib.Pow.{pow-add, pow_pos, pow_mono}
-use lib.Ieee.{Float, binary64, fits, lt, of_bits, to_bits}
-use lib.Ieee.Bits.{of_bits-fits, of_bits-to_bits}
+use lib.Ieee.{Float, nan, inf, fin, binary64, fits, lt, le, of_bits, to_bits}
+use lib.Ieee.Bits.{of_bits-fits, of_bits-to_bits, is_true, is_false}
 use lib.Ieee.Nearest.{div_same}
 use lib.Ieee.Positive.{num, den, den_pos}
 use lib.Ieee.Scale.{finite}
 use Rattle.real.specs.Real.{zero}
 use Rattle.real.specs.Printed.{print_limit, Printable, thousandths_of, printed_of}
 use Rattle.real.specs.Ages.{age_of}
-use Rattle.real.specs.OrderLaws.{nlt→le}
+use Rattle.real.specs.OrderLaws.{nlt→le, nle→lt, not_negative}
 use Rattle.real.specs.FieldLaws.{field, digits, age-small, age-large, age-units}
 use Rattle.real.specs.AgeLaws.{Age, lt-is}
 use Rattle.real.specs.PrintedLaws.{printable-finite, zero-finite, limit-finite}
-use Rattle.real.specs.declared.Printed.TheVariants.{Thousandths, Outside}
+use Rattle.std.specs.Prelude.{Some, None}
 
 -- ---- an age that is printed
 
@@ -100,20 +100,34 @@ module _ (x : Float) (n : ℕ) (e : n ≡ to_bits binary64 x) (F : T (fits binar
 
 -- ---- `print_age`
 
+-- a float that is not below zero
+level : (x : Float) → le zero x ≡ true → lt x zero ≡ false
+unfolding lt le of_bits
+level nan h = refl
+level (inf true) h = absurd (true≢false (sym h))
+level (inf false) h = refl
+level (fin s m e) h = is_false (lt (fin s m e) zero) (not_negative zero (fin s m e) tt tt tt (rw h tt))
+
 module _ (x : Float) where
-  pub negative : lt x zero ≡ true → Outside ≡ printed_of x
+  pub too_young : le zero x ≡ false → None ≡ printed_of x
+  unfolding printed_of lt le of_bits
+  too_young = go x
+    where
+      go : (x : Float) → le zero x ≡ false → None ≡ printed_of x
+      go nan h = refl
+      go (inf true) h = refl
+      go (inf false) h = absurd (true≢false h)
+      go (fin s m e) h = rw (is_true (lt (fin s m e) zero) (nle→lt zero (fin s m e) tt tt (rw h tt)))
+
+  pub too_old : le zero x ≡ true → lt x print_limit ≡ false → None ≡ printed_of x
   unfolding printed_of
-  negative h = rw h
+  too_old h k = rw (level x h, k)
 
-  pub too_old : lt x zero ≡ false → lt x print_limit ≡ false → Outside ≡ printed_of x
+  pub in-print : le zero x ≡ true → lt x print_limit ≡ true → Printable x
+  in-print h k = record { low = rw (level x h) tt; high = rw k tt }
+
+  pub in-thousandths : (n : ℕ) → le zero x ≡ true → lt x print_limit ≡ true → n ≡ thousandths_of x → Some n ≡ printed_of x
   unfolding printed_of
-  too_old h k = rw (h, k)
+  in-thousandths n h k e = rw (level x h, k, e)
 
-  pub in-print : lt x zero ≡ false → lt x print_limit ≡ true → Printable x
-  in-print h k = record { low = rw h tt; high = rw k tt }
-
-  pub in-thousandths : (n : ℕ) → lt x zero ≡ false → lt x print_limit ≡ true → n ≡ thousandths_of x → Thousandths n ≡ printed_of x
-  unfolding printed_of
-  in-thousandths n h k e = rw (h, k, e)
-
-pub ruleset thousandths_laws = (no-exponent, shift_fits, shift-out, all-out, negative, too_old, in-print, in-thousandths)
+pub ruleset thousandths_laws = (no-exponent, shift_fits, shift-out, all-out, too_young, too_old, in-print, in-thousandths)

@@ -1,5 +1,5 @@
 -- The definitions that the contracts of real cite, and the laws of the order of floats, of ages, of products, of arithmetic, which keeps the
--- order, of floats that are not negative but may have a minus sign, and of printed ages.
+-- order, of floats that are not negative but may have a minus sign, of printed ages, and of the library's words for numbers.
 pub mod Real
 pub mod Printed
 pub mod Ages
@@ -11,3 +11,4 @@ pub mod ProductLaws
 pub mod MonotoneLaws
 pub mod SignedLaws
 pub mod PrintedLaws
+pub mod NumberLaws

@@ -1,6 +1,6 @@
 -- Laws of printed ages: an age that is printed is finite, and is printed by its whole thousandths (`printable-finite`, `printed-is`); an older age
 -- never prints younger (`printed-order`); and a printed age is below 2 ^ 43 * 1000 thousandths (`printed-few`). Assumes nothing.
-use Rattle.std.specs.Prelude.{◌≡◌, Bool, cond, not, ◌&&◌, ℕ, ◌+◌, ◌*◌, ◌^◌, ◌≤◌, ◌<◌, Float}
+use Rattle.std.specs.Prelude.{◌≡◌, Bool, cond, not, ◌&&◌, ℕ, ◌+◌, ◌*◌, ◌^◌, ◌≤◌, ◌<◌, Float, Some, None}
 use Rattle.std.proofs.Math.Path.{refl}
 use Rattle.std.proofs.Common.{sym, subst, le_trans, le_of_eq, lt_of_lt_of_le, mul_right_comm, mul-le-mul_right, mul-lt-mul_of_pos_right, div-lt_iff_lt-mul, lit<}
 use Rattle.std.proofs.Math.Bool.{true, false}
@@ -15,7 +15,6 @@ use Rattle.std.specs.Float.Ieee.Scale.{finite}
 use Rattle.real.specs.Real.{zero}
 use Rattle.real.specs.Printed.{print_limit, Printable, thousandths_of, printed_of}
 use Rattle.real.specs.CrossLaws.{over, under, Most, lt→less, le→most, nlt→most}
-use Rattle.real.specs.declared.Printed.TheVariants.{Thousandths, Outside}
 
 -- ---- what is printed
 
@@ -34,12 +33,12 @@ pub limit-finite : T (finite print_limit)
 unfolding of_bits
 limit-finite = tt
 
-pub printed-is : (x : Float) (c : ℕ) → printed_of x ≡ Thousandths c → (c ≡ thousandths_of x) × Printable x
+pub printed-is : (x : Float) (c : ℕ) → printed_of x ≡ Some c → (c ≡ thousandths_of x) × Printable x
 unfolding printed_of
 printed-is x c e = go (lt x zero) (lt x print_limit) (λ h. h) (λ h. h) e
   where
     go : (a b : Bool) → (T (not a) → T (not (lt x zero))) → (T b → T (lt x print_limit))
-        → cond (not a && b) (Thousandths (thousandths_of x)) Outside ≡ Thousandths c → (c ≡ thousandths_of x) × Printable x
+        → cond (not a && b) (Some (thousandths_of x)) None ≡ Some c → (c ≡ thousandths_of x) × Printable x
     go true b l h e = absurd (let z : ◌≡◌ {A = ℕ} 0 1 = cc in omega arith)
     go false true l h e = let z : thousandths_of x ≡ c = cc in (sym z, record { low = l tt; high = h tt })
     go false false l h e = absurd (let z : ◌≡◌ {A = ℕ} 0 1 = cc in omega arith)
@@ -99,11 +98,11 @@ thousandths-order x y P Q h =
 
 -- ---- printed ages
 
-module _ (x : Float) (a : ℕ) (p : printed_of x ≡ Thousandths a) where
+module _ (x : Float) (a : ℕ) (p : printed_of x ≡ Some a) where
   pub printed-few : a < 2 ^ 43 * 1000
   printed-few = let e = printed-is x a p in subst (λ (c : ℕ). c < 2 ^ 43 * 1000) (sym e.0) (thousandths-few x e.1)
 
-  pub printed-order : (y : Float) (b : ℕ) → printed_of y ≡ Thousandths b → T (le x y) → a ≤ b
+  pub printed-order : (y : Float) (b : ℕ) → printed_of y ≡ Some b → T (le x y) → a ≤ b
   printed-order y b q h =
       let e = printed-is x a p in
       let f = printed-is y b q in

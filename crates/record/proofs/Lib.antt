@@ -1,4 +1,2 @@
--- The laws that the proofs of record share: one for each way through a function.
-mod ComplementLaws
-mod ReplyLaws
+-- The laws that the proofs of record share.
 mod WordLaws

@@ -1,6 +1,6 @@
 -- A record's allowance is read as 0 where its word is above 65,535. This shows that no call tells the two apart, so that the contracts of the exported
 -- functions can be read as if they spoke of the word itself. Assumes nothing.
-use Rattle.std.specs.Prelude.{◌≡◌, ℕ, Bool, true, false, cond, ◌&&◌, List, nat_le, nat_lt, refl}
+use Rattle.std.specs.Prelude.{◌≡◌, ℕ, Bool, true, false, cond, ◌&&◌, List, nat_le, nat_lt, refl, Result, Ok, Err}
 use Rattle.std.proofs.Common.{sym, ◌∙◌, ltb-true}
 use Rattle.std.proofs.Math.Path.{ap}
 use Rattle.std.proofs.lemmas.Bool.{lt-leb}
@@ -8,13 +8,12 @@ use Rattle.answer.specs.declared.Refusal.TheVariants.{Parameter}
 use Rattle.random.specs.declared.Random.{Random}
 use Rattle.random.specs.Draw.{Draw, allowed, countable}
 use Rattle.random.specs.BelowCall.{below_call}
-use Rattle.tree.specs.declared.Verdict.{Verdict}
-use Rattle.tree.specs.declared.Verdict.TheVariants as Verdicts
 use Rattle.tree.specs.Tree.{Tree}
 use Rattle.tree.specs.New.{validated}
 use Rattle.calls.specs.Call.{Reply, Outcome, and_then, limited, checked, run_call, call_of, leaves, tree_call}
 use Rattle.calls.specs.Change.{Change, keeps, replying, value_call}
 use Rattle.record.specs.Record.{word_in, allowance_in}
+use Rattle.answer.specs.declared.Refusal.{Refusal}
 
 -- ---- two allowances outside the limits
 
@@ -22,14 +21,14 @@ pub and-false : (b c : Bool) → c ≡ false → b && c ≡ false
 and-false true c e = e
 and-false false c e = refl
 
-pub limited-outside : (limits : Bool) (a : ℕ) → allowed a ≡ false → limited limits a ≡ Verdicts.Refused (Parameter 0)
+pub limited-outside : (limits : Bool) (a : ℕ) → allowed a ≡ false → limited limits a ≡ Err (Parameter 0)
 limited-outside limits a e = rw (and-false limits (allowed a) e)
 
 -- whatever is checked before the allowance
-run-outside : {A : Type 0} (v : Verdict) (limits : Bool) (program : Draw (Reply A)) (g : Random) (a b : ℕ) → allowed a ≡ false → allowed b ≡ false
+run-outside : {A : Type 0} (v : Result (Unit {0}) Refusal) (limits : Bool) (program : Draw (Reply A)) (g : Random) (a b : ℕ) → allowed a ≡ false → allowed b ≡ false
     → run_call (and_then v (limited limits a)) program g a ≡ run_call (and_then v (limited limits b)) program g b
-run-outside (Verdicts.Refused why) limits program g a b p q = refl
-run-outside Verdicts.Fine limits program g a b p q = rw (limited-outside limits a p, limited-outside limits b q)
+run-outside (Err why) limits program g a b p q = refl
+run-outside (Ok tt) limits program g a b p q = rw (limited-outside limits a p, limited-outside limits b q)
 
 below-outside : (g : Random) (n a b : ℕ) → allowed a ≡ false → allowed b ≡ false → below_call g n a ≡ below_call g n b
 unfolding below_call
@@ -52,7 +51,7 @@ module _ (words : List ℕ) where
   pub limited-word : (limits : Bool) → limited limits (allowance_in words) ≡ limited limits (word_in words 5)
   limited-word limits = same (limited limits) (λ a b p q. limited-outside limits a p ∙ sym (limited-outside limits b q))
 
-  pub run-word : {A : Type 0} (v : Verdict) (limits : Bool) (program : Draw (Reply A)) (g : Random)
+  pub run-word : {A : Type 0} (v : Result (Unit {0}) Refusal) (limits : Bool) (program : Draw (Reply A)) (g : Random)
       → run_call (and_then v (limited limits (allowance_in words))) program g (allowance_in words)
       ≡ run_call (and_then v (limited limits (word_in words 5))) program g (word_in words 5)
   run-word v limits program g = same (λ a. run_call (and_then v (limited limits a)) program g a) (run-outside v limits program g)
@@ -70,7 +69,7 @@ module _ (words : List ℕ) where
   pub value-word : {P : Type 0} (limits : Bool) (program : Draw (Change P)) (v : P) (g : Random)
       → value_call limits program v g (allowance_in words) ≡ value_call limits program v g (word_in words 5)
   unfolding value_call
-  value-word limits program v g = ap (keeps v g) (run-word Verdicts.Fine limits (replying program) g)
+  value-word limits program v g = ap (keeps v g) (run-word (Ok tt) limits (replying program) g)
 
   pub below_word : (g : Random) (n : ℕ) → below_call g n (allowance_in words) ≡ below_call g n (word_in words 5)
   below_word g n = same (below_call g n) (below-outside g n)

@@ -1,6 +1,6 @@
 -- The record of a call: the 64-bit words in which a host hands a call its numbers and finds what it answers. What a call reads of them, and what they
 -- are after an answer. A float stands in a word by its bits. Definitions only. Assumes nothing.
-use Rattle.std.specs.Prelude.{ℕ, suc, ◌-◌, ◌^◌, Bool, cond, ◌&&◌, List, [], ◌∷◌, length, ℤ, pos, negsuc, from_bits, nat_le, nat_lt, slice_index, slice_index_or, slice_set, to_bits, Float}
+use Rattle.std.specs.Prelude.{ℕ, suc, ◌-◌, ◌^◌, Bool, cond, ◌&&◌, List, [], ◌∷◌, length, ℤ, pos, negsuc, from_bits, nat_le, nat_lt, slice_index, slice_index_or, slice_set, to_bits, Float, Result, Ok, Err}
 use Rattle.std.proofs.lemmas.List.Edits.{sets}
 use Rattle.std.specs.Float.{binary64}
 use Rattle.answer.specs.Answers.{number_of, detail_of, Kind, even, counts, lengths, power, kind_of, Value, natural, real, integer, values_of}
@@ -14,8 +14,6 @@ use Rattle.answer.specs.declared.Proposal.TheVariants as Proposals
 use Rattle.random.specs.declared.Random.{Random}
 use Rattle.random.specs.Generator.{state_of, from_state}
 use Rattle.random.specs.Draw.{allowed}
-use Rattle.tree.specs.declared.Verdict.{Verdict}
-use Rattle.tree.specs.declared.Verdict.TheVariants as Verdicts
 use Rattle.record.specs.declared.Given.{Given}
 use Rattle.record.specs.declared.Reply.{Reply}
 
@@ -152,6 +150,6 @@ answered (Answers.Declined draws) g words = proposed (Proposals.Declined draws) 
 answered (Answers.Refused why) g words = proposed (Proposals.Refused why) g words
 
 -- a call that makes no draws: fine, or refused
-unfoldable pub judged : Verdict → List ℕ → Written
-judged Verdicts.Fine words = replied (given_reply 0 0 0) words
-judged (Verdicts.Refused why) words = replied (refused_reply why) words
+unfoldable pub judged : Result (Unit {0}) Refusal → List ℕ → Written
+judged (Ok tt) words = replied (given_reply 0 0 0) words
+judged (Err why) words = replied (refused_reply why) words

@@ -1,19 +1,18 @@
 // The record of a call: a slice of 64-bit words in which a host hands a call its numbers and finds what it answers. specs/Record.antt gives the place
 // and the form of each. A word that is not there reads as 0; what writes asks that the words are a record, which every call tests first, but for
-// `put_unready`, which tests it. Assumes nothing.
+// `put_unready`, which tests it. A type of its own around the words would need a clause about the reference in each function that takes it, so that it is no
+// plainer. Assumes nothing.
 #![tactic(auto)]
 
 ghost use Rattle.std.specs.Prelude.{◌≡◌, ◌<◌, ◌≤◌, [], ◌∷◌, length, slice_set, to_bits};
 ghost use Rattle.std.proofs.lemmas.List.Edits.{sets};
 ghost use Rattle.std.specs.Float.{binary64};
 ghost use Rattle.record.specs.Record.{is_record, is_ready, word_in, real_in, generator_in, root_in, allowance_in, node_in, tuning_in, given_in};
-ghost use Rattle.record.specs.Record.{with_generator, with_root, with_node, complement, moved_reply, given_reply, refused_reply, written, replied, unready, proposed, answered, judged};
+ghost use Rattle.record.specs.Record.{with_generator, with_root, with_node, moved_reply, given_reply, declined_reply, refused_reply, written, replied, unready, proposed, answered, judged};
 
 use answer::{Answer, Proposal, Ratio, Refusal};
 use calls::Answered;
 use random::Random;
-use std::num::wrapping_add_u64;
-use tree::Verdict;
 
 // The fewest words of a record.
 const FEWEST: usize = 32;
@@ -62,10 +61,7 @@ pub fn is_record(words: &[u64]) -> bool
 pub fn is_ready(words: &[u64]) -> bool
     ensures { result ≡ is_ready words.now }
 {
-    if FEWEST <= words.len() {
-        return 1 <= words[ALLOWANCE] && words[ALLOWANCE] <= LARGEST_ALLOWANCE;
-    }
-    false
+    is_record(words) && 1 <= words[ALLOWANCE] && words[ALLOWANCE] <= LARGEST_ALLOWANCE
 }
 
 // ---- what a call reads
@@ -73,10 +69,7 @@ pub fn is_ready(words: &[u64]) -> bool
 pub fn word(words: &[u64], k: usize) -> u64
     ensures { result ≡ word_in words.now k }
 {
-    if k < words.len() {
-        return words[k];
-    }
-    0
+    words.get(k).copied().unwrap_or(0)
 }
 
 pub fn real_at(words: &[u64], k: usize) -> f64
@@ -107,10 +100,11 @@ pub fn allowance(words: &[u64]) -> u32
     ensures { result ≡ allowance_in words.now }
 {
     let given = word(words, ALLOWANCE);
-    if LARGEST_ALLOWANCE < given {
-        return 0;
+    if given <= LARGEST_ALLOWANCE {
+        given as u32
+    } else {
+        0
     }
-    given as u32
 }
 
 pub fn node(words: &[u64]) -> usize
@@ -128,63 +122,43 @@ pub fn tuning(words: &[u64]) -> f64
 pub fn read(words: &[u64]) -> Given
     ensures { result ≡ given_in words.now }
 {
-    let root = root(words);
-    let random = generator(words);
-    let allowance = allowance(words);
     Given {
-        root,
-        random,
-        allowance,
+        root: root(words),
+        random: generator(words),
+        allowance: allowance(words),
     }
 }
 
 // ---- what a call writes
 
-pub fn put(words: &mut [u64], k: usize, x: u64)
-    requires { k < length words.old }
-    ensures { words.new ≡ slice_set words.old k x }
-{
-    words[k] = x;
-}
-
 pub fn put_real(words: &mut [u64], k: usize, x: f64)
     requires { k < length words.old }
     ensures { words.new ≡ slice_set words.old k (to_bits binary64 x) }
 {
-    put(words, k, real::to_bits(x));
+    words[k] = real::to_bits(x);
 }
 
 // Words 0 to 3.
-fn put_first(words: &mut [u64], a: u64, b: u64, c: u64, d: u64)
-    requires { 32 ≤ length words.old }
-    ensures { words.new ≡ sets words.old 0 (a ∷ b ∷ c ∷ d ∷ []) }
-{
-    put(words, 0, a);
-    put(words, 1, b);
-    put(words, 2, c);
-    put(words, 3, d);
-}
-
+#[tactic(auto, using(crate::proofs::WordLaws::word_laws))]
 pub fn put_generator(words: &mut [u64], random: Random)
     requires { 32 ≤ length words.old }
     ensures { words.new ≡ with_generator random words.old }
 {
-    let s = random.state();
-    put_first(words, s[0], s[1], s[2], s[3]);
+    words[..4].copy_from_slice(&random.state());
 }
 
 pub fn put_root(words: &mut [u64], root: usize)
     requires { 32 ≤ length words.old }
     ensures { words.new ≡ with_root root words.old }
 {
-    put(words, ROOT, root as u64);
+    words[ROOT] = root as u64;
 }
 
 pub fn put_node(words: &mut [u64], node: usize)
     requires { 32 ≤ length words.old }
     ensures { words.new ≡ with_node node words.old }
 {
-    put(words, NODE, node as u64);
+    words[NODE] = node as u64;
 }
 
 // Words 8 to 12; the answer code.
@@ -192,62 +166,33 @@ pub fn put_reply(words: &mut [u64], reply: Reply) -> u64
     requires { 32 ≤ length words.old }
     ensures { written result words.new ≡ replied reply words.old }
 {
-    put(words, ANSWER, reply.code);
-    put(words, ANSWER + 1, reply.draws);
-    put(words, ANSWER + 2, reply.kind);
-    put(words, ANSWER + 3, reply.first);
-    put(words, ANSWER + 4, reply.second);
+    let five = [
+        reply.code,
+        reply.draws,
+        reply.kind,
+        reply.first,
+        reply.second,
+    ];
+    words[ANSWER..ANSWER + 5].copy_from_slice(&five);
     reply.code
 }
 
-// An exponent in two's complement: raised by 2^31, so that it is not below 0, and lowered by as much, modulo 2^64.
-fn complement(k: i32) -> u64
-    ensures { result ≡ complement k }
-{
-    wrapping_add_u64((k as i64 + 2147483648) as u64, 0xffff_ffff_8000_0000)
-}
-
-// The reply of a move that was made.
+// The reply of a move that was made. An exponent stands in two's complement.
 fn moved(draws: u32, ratio: Ratio) -> Reply
     ensures { result ≡ moved_reply draws ratio }
 {
-    match ratio {
-        Ratio::Even => {
-            return Reply {
-                code: 0,
-                draws: draws as u64,
-                kind: 0,
-                first: 1,
-                second: 1,
-            };
-        }
-        Ratio::Counts(a, b) => {
-            return Reply {
-                code: 0,
-                draws: draws as u64,
-                kind: 1,
-                first: a as u64,
-                second: b as u64,
-            };
-        }
-        Ratio::Lengths(a, b) => {
-            return Reply {
-                code: 0,
-                draws: draws as u64,
-                kind: 2,
-                first: real::to_bits(a),
-                second: real::to_bits(b),
-            };
-        }
-        Ratio::Power(f, k) => {
-            return Reply {
-                code: 0,
-                draws: draws as u64,
-                kind: 3,
-                first: real::to_bits(f),
-                second: complement(k),
-            };
-        }
+    let (kind, first, second) = match ratio {
+        Ratio::Even => (0, 1, 1),
+        Ratio::Counts(a, b) => (1, a as u64, b as u64),
+        Ratio::Lengths(a, b) => (2, real::to_bits(a), real::to_bits(b)),
+        Ratio::Power(f, k) => (3, real::to_bits(f), i64::from(k).cast_unsigned()),
+    };
+    Reply {
+        code: 0,
+        draws: u64::from(draws),
+        kind,
+        first,
+        second,
     }
 }
 
@@ -260,7 +205,7 @@ pub fn put_given(words: &mut [u64], draws: u32, first: u64, second: u64) -> u64
         words,
         Reply {
             code: 0,
-            draws: draws as u64,
+            draws: u64::from(draws),
             kind: 0,
             first,
             second,
@@ -268,6 +213,24 @@ pub fn put_given(words: &mut [u64], draws: u32, first: u64, second: u64) -> u64
     )
 }
 
+// Code 1.
+pub fn put_declined(words: &mut [u64], draws: u32) -> u64
+    requires { 32 ≤ length words.old }
+    ensures { written result words.new ≡ replied (declined_reply draws) words.old }
+{
+    put_reply(
+        words,
+        Reply {
+            code: 1,
+            draws: u64::from(draws),
+            kind: 0,
+            first: 0,
+            second: 0,
+        },
+    )
+}
+
+// Code 2.
 pub fn put_refusal(words: &mut [u64], why: Refusal) -> u64
     requires { 32 ≤ length words.old }
     ensures { written result words.new ≡ replied (refused_reply why) words.old }
@@ -277,7 +240,7 @@ pub fn put_refusal(words: &mut [u64], why: Refusal) -> u64
         Reply {
             code: 2,
             draws: 0,
-            kind: why.number() as u64,
+            kind: u64::from(why.number()),
             first: why.detail() as u64,
             second: 0,
         },
@@ -285,16 +248,19 @@ pub fn put_refusal(words: &mut [u64], why: Refusal) -> u64
 }
 
 // What a call that is not ready answers.
+#[tactic(auto, using(crate::specs::RoomLaws::room_laws), unfolding(crate::specs::Record::unready))]
 pub fn put_unready(words: &mut [u64]) -> u64
     ensures { written result words.new ≡ unready words.old }
 {
     if is_record(words) {
-        return put_refusal(words, Refusal::Parameter(0));
+        put_refusal(words, Refusal::Parameter(0))
+    } else {
+        NO_RECORD
     }
-    NO_RECORD
 }
 
 // What a call on parameters answers.
+#[tactic(auto, unfolding(crate::specs::Record::proposed))]
 pub fn put_proposal(words: &mut [u64], proposal: Proposal, random: Random) -> u64
     requires { 32 ≤ length words.old }
     ensures { written result words.new ≡ proposed proposal random words.old }
@@ -302,60 +268,41 @@ pub fn put_proposal(words: &mut [u64], proposal: Proposal, random: Random) -> u6
     match proposal {
         Proposal::Scaled(draws, ratio) => {
             put_generator(words, random);
-            return put_reply(words, moved(draws, ratio));
+            put_reply(words, moved(draws, ratio))
         }
         Proposal::Declined(draws) => {
             put_generator(words, random);
-            return put_reply(
-                words,
-                Reply {
-                    code: 1,
-                    draws: draws as u64,
-                    kind: 0,
-                    first: 0,
-                    second: 0,
-                },
-            );
+            put_declined(words, draws)
         }
-        Proposal::Refused(why) => {
-            return put_refusal(words, why);
-        }
+        Proposal::Refused(why) => put_refusal(words, why),
     }
 }
 
 // What a tree move answers.
+#[tactic(auto, unfolding(crate::specs::Record::answered))]
 pub fn put_answer(words: &mut [u64], a: Answered) -> u64
     requires { 32 ≤ length words.old }
     ensures { written result words.new ≡ answered a.answer a.random words.old }
 {
-    let random = a.random;
-    let answer = a.answer;
-    match answer {
-        Answer::Moved(m) => {
-            let ratio = m.ratio;
-            put_root(words, m.root);
-            return put_proposal(words, Proposal::Scaled(m.draws, ratio), random);
+    let proposal = match a.answer {
+        Answer::Moved(moved) => {
+            put_root(words, moved.root);
+            Proposal::Scaled(moved.draws, moved.ratio)
         }
-        Answer::Declined(draws) => {
-            return put_proposal(words, Proposal::Declined(draws), random);
-        }
-        Answer::Refused(why) => {
-            return put_proposal(words, Proposal::Refused(why), random);
-        }
-    }
+        Answer::Declined(draws) => Proposal::Declined(draws),
+        Answer::Refused(why) => Proposal::Refused(why),
+    };
+    put_proposal(words, proposal, a.random)
 }
 
 // What a check answers, which makes no draws.
-pub fn put_verdict(words: &mut [u64], verdict: Verdict) -> u64
+#[tactic(auto, unfolding(crate::specs::Record::judged))]
+pub fn put_verdict(words: &mut [u64], verdict: Result<(), Refusal>) -> u64
     requires { 32 ≤ length words.old }
     ensures { written result words.new ≡ judged verdict words.old }
 {
     match verdict {
-        Verdict::Fine => {
-            return put_given(words, 0, 0, 0);
-        }
-        Verdict::Refused(why) => {
-            return put_refusal(words, why);
-        }
+        Ok(()) => put_given(words, 0, 0, 0),
+        Err(why) => put_refusal(words, why),
     }
 }

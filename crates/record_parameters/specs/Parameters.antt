@@ -1,30 +1,25 @@
 -- The parameters in a record: where each stands in words 13 to 31 and in what form, and what a call on parameters leaves there. A float stands in a
 -- word by its bits; a flag that is 0 says that what follows is missing. Definitions only. Assumes nothing.
-use Rattle.std.specs.Prelude.{Bool, true, false, cond, List, [], ◌∷◌, ℕ, eqb, set, Float}
+use Rattle.std.specs.Prelude.{Bool, true, false, cond, List, [], ◌∷◌, ℕ, eqb, set, Float, Option, Some, None}
 use Rattle.std.proofs.lemmas.List.Edits.{sets}
 use Rattle.std.specs.Float.{binary64}
 use Rattle.std.specs.Float.Ieee.{to_bits}
 use Rattle.answer.specs.declared.Proposal.{Proposal}
 use Rattle.answer.specs.declared.Proposal.TheVariants as Proposals
 use Rattle.random.specs.declared.Random.{Random}
-use Rattle.real.specs.declared.Optional.{Optional}
-use Rattle.real.specs.declared.Optional.TheVariants as Optionals
 use Rattle.speciation.specs.declared.Speciation.{Speciation}
 use Rattle.speciation.specs.declared.Speciation.TheVariants.{Yule, BirthDeath}
 use Rattle.process.specs.declared.FossilizedBirthDeath.{FossilizedBirthDeath}
-use Rattle.process.specs.declared.Shapes.{Shapes}
-use Rattle.process.specs.declared.Shapes.TheVariants as Shapings
 use Rattle.process.specs.declared.ProcessPriors.{ProcessPriors}
 use Rattle.fields.specs.declared.Field.TheVariants.{Birth, Death, FossilSampling, Origin}
 use Rattle.record.specs.Record.{word_in, real_in, node_in, Written, proposed}
-use Rattle.record_parameters.specs.declared.Choice.{Choice}
-use Rattle.record_parameters.specs.declared.Choice.TheVariants.{Of, Nothing}
+use Rattle.fields.specs.declared.Field.{Field}
 
 -- ---- what a call reads
 
 -- the float in word k, if the flag is not 0
-abbrev pub optional_in : List ℕ → ℕ → ℕ → Optional
-optional_in words flag k = cond (eqb (word_in words flag) 0) Optionals.Missing (Optionals.Given (real_in words k))
+abbrev pub optional_in : List ℕ → ℕ → ℕ → Option Float
+optional_in words flag k = cond (eqb (word_in words flag) 0) None (Some (real_in words k))
 
 -- word 13 is 0 for a Yule process; its rate, or the two of a birth–death process, from word 14 on
 abbrev pub speciation_in : List ℕ → Speciation
@@ -41,8 +36,8 @@ process_in words = record {
 }
 
 -- words 18 to 28: a flag and a mean each, and for present sampling a flag and two shapes
-abbrev pub shapes_in : List ℕ → Shapes
-shapes_in words = cond (eqb (word_in words 24) 0) Shapings.Missing (Shapings.Given (real_in words 25) (real_in words 26))
+abbrev pub shapes_in : List ℕ → Option (Float × Float)
+shapes_in words = cond (eqb (word_in words 24) 0) None (Some ((real_in words 25), (real_in words 26)))
 
 abbrev pub priors_in : List ℕ → ProcessPriors
 priors_in words = record {
@@ -54,13 +49,13 @@ priors_in words = record {
 }
 
 -- the field that word 6 names
-abbrev pub field_of : ℕ → Choice
+abbrev pub field_of : ℕ → Option Field
 field_of n =
-    cond (eqb n 0) (Of Birth)
-    (cond (eqb n 1) (Of Death)
-    (cond (eqb n 2) (Of FossilSampling) (cond (eqb n 3) (Of Origin) Nothing)))
+    cond (eqb n 0) (Some Birth)
+    (cond (eqb n 1) (Some Death)
+    (cond (eqb n 2) (Some FossilSampling) (cond (eqb n 3) (Some Origin) None)))
 
-abbrev pub chosen_in : List ℕ → Choice
+abbrev pub chosen_in : List ℕ → Option Field
 chosen_in words = field_of (node_in words)
 
 -- ---- what a call writes
@@ -68,9 +63,9 @@ chosen_in words = field_of (node_in words)
 abbrev pub with_real : ℕ → Float → List ℕ → List ℕ
 with_real k x words = set words k (to_bits binary64 x)
 
-abbrev pub with_optional : Optional → List ℕ → List ℕ
-with_optional Optionals.Missing words = words
-with_optional (Optionals.Given x) words = with_real 14 x words
+abbrev pub with_optional : Option Float → List ℕ → List ℕ
+with_optional None words = words
+with_optional (Some x) words = with_real 14 x words
 
 abbrev pub with_speciation : Speciation → List ℕ → List ℕ
 with_speciation (Yule rate) words = with_real 14 rate words

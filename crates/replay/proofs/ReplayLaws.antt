@@ -1,4 +1,4 @@
--- The ways through the code that replays: two texts compared (`compare_laws`), a file answered (`file_laws`), a text of the data (`text_laws`, `place_laws`),
+-- The ways through the code that replays: two texts compared (`compare_laws`), a file answered (`file-few` and those after it), a text of the data (`text_laws`, `place_laws`),
 -- a case (`case_laws`), and all cases (`cases_laws`, `all_laws`). Assumes nothing.
 use mathlib.Core.Path.{◌≡◌, refl, sym, ap, ◌∙◌, subst}
 use mathlib.Core.List.{List, ◌++◌}
@@ -13,42 +13,62 @@ use borrow.Author.Tests.{eq-eqb, ne_eqb, lt-ltb, le-ltb}
 use Rattle.text.specs.Text.{bytes, line_end}
 use Rattle.text.specs.Rules.{malformed, parsed, return, onward, ◌>>=◌, literal, fixed, decimal}
 use Rattle.text.specs.Places.{numbered}
-use Rattle.text.specs.declared.Number.{Number}
 use Rattle.forms.specs.Forms.{entry, most_elsewhere}
 use Rattle.report.specs.Report.{Delivery, delivery, delivered}
 use Rattle.respond.specs.Respond.{file_reply}
 use Rattle.replay.specs.Replay.{taken, counted, case, cases_line, compared, within, replay_case, proceed, outcome, replayed}
 use Rattle.replay.specs.Given.{texted, Inside, stepped}
-use Rattle.replay.specs.declared.Compared.{Compared}
-use Rattle.replay.specs.declared.Span.{Span}
-use Rattle.replay.specs.declared.Step.{Step}
-use Rattle.replay.specs.declared.Outcome.{Outcome}
+use Rattle.replay.specs.declared.Fault.{Fault}
+use Rattle.replay.specs.declared.Fault.TheVariants as Faults
+use Rattle.replay.specs.declared.Stop.{Stop}
+use Rattle.replay.specs.declared.Stop.TheVariants as Stops
+use Rattle.std.specs.Prelude.{Option, Some, None, Result, Ok, Err, Bool, true, false, cond, ◌&&◌, eqb, [], ◌∷◌}
+use Rattle.std.specs.List.{zip, take_while, prefix_len}
+use lib.Pointwise.{pointwise}
 
--- ---- two texts, which are alike before the place i
+-- ---- two texts from the place i on: whether they are one text, and how many bytes are alike from their start
 
-module _ (g e : List ℕ) (i : ℕ) (whole : Compared) (inv : compared i (drop i g) (drop i e) ≡ whole) where
-  pub compare-longer : i < length g → length e ≤ i → Compared.Differ i ≡ whole
-  unfolding compared
-  compare-longer h k = rw (drop-cons g i 0 h, drop_of_length-le e k) at inv
+same : (i : ℕ) (g e : List ℕ) → pointwise eqb g e ≡ true → None ≡ compared i g e
+unfolding compared
+same i [] [] h = refl
+same i [] (y ∷ e) h = cc
+same i (x ∷ g) [] h = cc
+same i (x ∷ g) (y ∷ e) h = go (eqb x y) (same (suc i) g e) h
+  where
+    go : (b : Bool) → (pointwise eqb g e ≡ true → None ≡ compared (suc i) g e) → b && pointwise eqb g e ≡ true → None ≡ cond b (compared (suc i) g e) (Some i)
+    go true r h = r h
+    go false r h = cc
 
-  pub compare-shorter : length g ≤ i → i < length e → Compared.Differ i ≡ whole
-  unfolding compared
-  compare-shorter h k = rw (drop_of_length-le g h, drop-cons e i 0 k) at inv
+abbrev pub alike_in : List ℕ → List ℕ → ℕ
+alike_in g e = length (take_while (λ (p : ℕ × ℕ). eqb p.0 p.1) (zip g e))
 
-  pub compare-end : length g ≤ i → length e ≤ i → Compared.Alike ≡ whole
-  unfolding compared
-  compare-end h k = rw (drop_of_length-le g h, drop_of_length-le e k) at inv
+other : (i : ℕ) (g e : List ℕ) → pointwise eqb g e ≡ false → Some (i + alike_in g e) ≡ compared i g e
+unfolding compared
+other i [] [] h = cc
+other i [] (y ∷ e) h = let z : i + 0 ≡ i = omega arith in ap (λ (n : ℕ). Some n) z
+other i (x ∷ g) [] h = let z : i + 0 ≡ i = omega arith in ap (λ (n : ℕ). Some n) z
+other i (x ∷ g) (y ∷ e) h = go (eqb x y) (other (suc i) g e) h
+  where
+    n : ℕ
+    n = prefix_len (λ (p : ℕ × ℕ). eqb p.0 p.1) (zip g e)
 
-  module _ (h : i < length g) (k : i < length e) where
-    pub compare-other : (get_or g i 0 ≡ get_or e i 0 → ⊥) → Compared.Differ i ≡ whole
-    unfolding compared
-    compare-other d = rw (drop-cons g i 0 h, drop-cons e i 0 k, ne_eqb (get_or g i 0) (get_or e i 0) d) at inv
+    go : (b : Bool) → (pointwise eqb g e ≡ false → Some (suc i + alike_in g e) ≡ compared (suc i) g e) → b && pointwise eqb g e ≡ false
+        → Some (i + length (take (cond b (1 + n) 0) ((x, y) ∷ zip g e))) ≡ cond b (compared (suc i) g e) (Some i)
+    go true r h =
+        let m : 1 + n ≡ suc n = omega arith in
+        let k : i + suc (alike_in g e) ≡ suc i + alike_in g e = omega arith in
+        rw (m, k) (r h)
+    go false r h = let z : i + 0 ≡ i = omega arith in ap (λ (n : ℕ). Some n) z
 
-    pub compare-more : get_or g i 0 ≡ get_or e i 0 → compared (i + 1) (drop (i + 1) g) (drop (i + 1) e) ≡ whole
-    unfolding compared
-    compare-more d = rw add-one (rw (drop-cons g i 0 h, drop-cons e i 0 k, eq-eqb (get_or g i 0) (get_or e i 0) d) at inv)
+-- b says whether they are one text
+module _ (g e : List ℕ) (b : Bool) (eb : b ≡ pointwise eqb g e) where
+  pub compare-same : b ≡ true → None ≡ compared 0 g e
+  compare-same t = same 0 g e (sym eb ∙ t)
 
-pub ruleset compare_laws = (compare-longer, compare-shorter, compare-end, compare-other, compare-more)
+  pub compare-other : b ≡ false → (n : ℕ) → n ≡ alike_in g e → Some n ≡ compared 0 g e
+  compare-other t n en = let z : n ≡ 0 + alike_in g e = omega arith in ap (λ (m : ℕ). Some m) z ∙ other 0 g e (sym eb ∙ t)
+
+pub ruleset compare_laws = (compare-same, compare-other)
 
 -- ---- a file answered: r bytes of the slice o, which came as out
 
@@ -83,10 +103,8 @@ module _ (room : ℕ) (out text : List ℕ) (long : length out ≡ room) (r : �
   pub file-long : r ≡ length (take r o)
   file-long = sym (length-take-le r o given.few)
 
-  pub file-compared : (x : Compared) (expected : List ℕ) → x ≡ compared 0 (take r o) expected → x ≡ compared 0 (within room text) expected
+  pub file-compared : (x : Option ℕ) (expected : List ℕ) → x ≡ compared 0 (take r o) expected → x ≡ compared 0 (within room text) expected
   file-compared x expected h = rw given.these at h
-
-pub ruleset file_laws = (file-few, file-long, file-compared)
 
 -- ---- a text of the data, from the place i on
 
@@ -108,36 +126,36 @@ module _ (n : ℕ) (u : List ℕ) (h : n < length u) where
   unfolding taken onward fixed ◌>>=◌ literal return
   unshut b = let q : n ≤ length u = omega arith in rw (le-ltb (length u) n q, drop-cons u n 0 h, ne_eqb (get_or u n 0) 10 b)
 
-module _ (s key t : List ℕ) (r : Number) (e : numbered s r ≡ entry key (decimal most_elsewhere) t) where
-  pub text-unread : r ≡ Number.Malformed → malformed ≡ counted key t
+module _ (s key t : List ℕ) (r : Option (ℕ × ℕ)) (e : numbered s r ≡ entry key (decimal most_elsewhere) t) where
+  pub text-unread : r ≡ None → malformed ≡ counted key t
   unfolding counted ◌>>=◌ onward
   text-unread m = rw (← e, m)
 
-  module _ (n i : ℕ) (p : r ≡ Number.Value n i) where
+  module _ (n i : ℕ) (p : r ≡ Some (n, i)) where
     whole : onward (taken n (drop i s)) (fixed line_end) ≡ counted key t
     unfolding counted ◌>>=◌ onward
     whole = rw (← e, p)
 
-    pub text-past : length s ≤ i → malformed ≡ counted key t
-    text-past h = cut n (drop i s) (rw length-drop (omega arith)) ∙ whole
+    pub text-short : length s ≤ i + n → malformed ≡ counted key t
+    text-short h = cut n (drop i s) (rw length-drop (omega arith)) ∙ whole
 
-    pub text-cut : length s - i ≤ n → malformed ≡ counted key t
-    text-cut h = cut n (drop i s) (rw length-drop h) ∙ whole
+    module _ (h : i + n < length s) where
+      room : n < length (drop i s)
+      room = rw length-drop (omega arith)
 
-    module _ (h : n < length s - i) where
       pub text-open : (get_or s (i + n) 0 ≡ 10 → ⊥) → malformed ≡ counted key t
-      text-open b = unshut n (drop i s) (rw length-drop h) (rw get_or-drop b) ∙ whole
+      text-open b = unshut n (drop i s) room (rw get_or-drop b) ∙ whole
 
-      pub text-there : get_or s (i + n) 0 ≡ 10 → texted s (Span.Between i (i + n)) ≡ counted key t
+      pub text-there : get_or s (i + n) 0 ≡ 10 → texted s (Some (i, i + n)) ≡ counted key t
       text-there b =
           let m : i + n - i ≡ n = omega arith in
           let l : i + n + 1 ≡ i + suc n = omega arith in
-          rw (m, l, ← drop-drop) (shut n (drop i s) (rw length-drop h) (rw get_or-drop b) ∙ whole)
+          rw (m, l, ← drop-drop) (shut n (drop i s) room (rw get_or-drop b) ∙ whole)
 
-pub ruleset text_laws = (text-unread, text-past, text-cut, text-open, text-there)
+pub ruleset text_laws = (text-unread, text-short, text-open, text-there)
 
 -- where it starts and ends
-module _ (s : List ℕ) (r : Span) (a b : ℕ) (h : Inside s r) (e : r ≡ Span.Between a b) where
+module _ (s : List ℕ) (r : Option (ℕ × ℕ)) (a b : ℕ) (h : Inside s r) (e : r ≡ Some (a, b)) where
   pub text-inside : (a ≤ b) × (b < length s)
   text-inside = subst (Inside s) e h
 
@@ -151,23 +169,23 @@ pub ruleset place_laws = (text-start, text-end)
 
 -- ---- a case: f and g are where its file and its answer stand
 
-module _ (s t : List ℕ) (f : Span) (ef : texted s f ≡ counted (bytes "file=") t) where
-  pub case-file : f ≡ Span.Malformed → stepped s Step.Malformed ≡ replay_case t
+module _ (s t : List ℕ) (f : Option (ℕ × ℕ)) (ef : texted s f ≡ counted (bytes "file=") t) where
+  pub case-file : f ≡ None → stepped s (Err Faults.Malformed) ≡ replay_case t
   unfolding replay_case case ◌>>=◌ onward
   case-file m = rw (← ef, m)
 
-  module _ (a b : ℕ) (pf : f ≡ Span.Between a b) (g : Span) (eg : texted s g ≡ counted (bytes "answer=") (drop (b + 1) s)) where
-    pub case-answer : g ≡ Span.Malformed → stepped s Step.Malformed ≡ replay_case t
+  module _ (a b : ℕ) (pf : f ≡ Some (a, b)) (g : Option (ℕ × ℕ)) (eg : texted s g ≡ counted (bytes "answer=") (drop (b + 1) s)) where
+    pub case-answer : g ≡ None → stepped s (Err Faults.Malformed) ≡ replay_case t
     unfolding replay_case case ◌>>=◌ onward
     case-answer m = rw (← ef, pf, ← eg, m)
 
-    module _ (c d : ℕ) (pg : g ≡ Span.Between c d) (r : Compared)
+    module _ (c d : ℕ) (pg : g ≡ Some (c, d)) (r : Option ℕ)
         (er : r ≡ compared 0 (within 131136 (file_reply 131072 (take (b - a) (drop a s)))) (take (d - c) (drop c s))) where
-      pub case-differs : (i : ℕ) → r ≡ Compared.Differ i → stepped s (Step.Differs i) ≡ replay_case t
+      pub case-differs : (i : ℕ) → r ≡ Some i → stepped s (Err (Faults.Differs i)) ≡ replay_case t
       unfolding replay_case case ◌>>=◌ onward return
       case-differs i m = rw (← ef, pf, ← eg, pg, ← er, m)
 
-      pub case-alike : r ≡ Compared.Alike → stepped s (Step.Alike (d + 1)) ≡ replay_case t
+      pub case-alike : r ≡ None → stepped s (Ok (d + 1)) ≡ replay_case t
       unfolding replay_case case ◌>>=◌ onward return
       case-alike m = rw (← ef, pf, ← eg, pg, ← er, m)
 
@@ -175,50 +193,50 @@ pub ruleset case_laws = (case-file, case-answer, case-differs, case-alike)
 
 -- ---- all cases, of which k are alike
 
-pub record Going (s : List ℕ) (n k i : ℕ) (whole : Outcome) : Type 0 where
+pub record Going (s : List ℕ) (n k i : ℕ) (whole : Result ℕ Stop) : Type 0 where
   pub few : k ≤ n
   pub rest : outcome (n - k) k (drop i s) ≡ whole
 
 pub going_start : (s : List ℕ) (n i : ℕ) → Going s n 0 i (outcome n 0 (drop i s))
 going_start s n i = record { few = omega arith; rest = rw sub-zero }
 
-module _ (s : List ℕ) (n k i : ℕ) (whole : Outcome) (x : Going s n k i whole) where
+module _ (s : List ℕ) (n k i : ℕ) (whole : Result ℕ Stop) (x : Going s n k i whole) where
   done : n ≤ k → outcome 0 n (drop i s) ≡ whole
   done h = let e : k ≡ n = omega (arith, x.few) in let z : n - n ≡ 0 = omega arith in rw (e, z) at x.rest
 
-  pub going_end : n ≤ k → length s ≤ i → Outcome.Alike n ≡ whole
+  pub going_end : n ≤ k → length s ≤ i → Ok n ≡ whole
   unfolding outcome
   going_end h l = rw (drop_of_length-le s l) at (done h)
 
-  pub going-over : n ≤ k → i < length s → Outcome.Malformed n ≡ whole
+  pub going-over : n ≤ k → i < length s → Err (Stops.Malformed n) ≡ whole
   unfolding outcome
   going-over h l = rw (drop-cons s i 0 l) at (done h)
 
-  module _ (h : k < n) (r : Step) (e : stepped s r ≡ replay_case (drop i s)) where
+  module _ (h : k < n) (r : Result ℕ Fault) (e : stepped s r ≡ replay_case (drop i s)) where
     opened : proceed k (stepped s r) (outcome (n - (k + 1)) (suc k)) ≡ whole
     unfolding outcome
     opened = let l : n - k ≡ suc (n - (k + 1)) = omega arith in rw (l, ← e) at x.rest
 
-    pub going-malformed : r ≡ Step.Malformed → Outcome.Malformed k ≡ whole
+    pub going-malformed : r ≡ Err Faults.Malformed → Err (Stops.Malformed k) ≡ whole
     unfolding proceed
     going-malformed m = rw m at opened
 
-    pub going-differs : (p : ℕ) → r ≡ Step.Differs p → Outcome.Differs (k + 1) p ≡ whole
+    pub going-differs : (p : ℕ) → r ≡ Err (Faults.Differs p) → Err (Stops.Differs (k + 1) p) ≡ whole
     unfolding proceed
     going-differs p m = rw add-one (rw m at opened)
 
-    pub going_more : (j : ℕ) → r ≡ Step.Alike j → Going s n (k + 1) j whole
+    pub going_more : (j : ℕ) → r ≡ Ok j → Going s n (k + 1) j whole
     unfolding proceed
     going_more j m = record { few = omega arith; rest = rw add-one (rw (m, add-one) at opened) }
 
 pub ruleset cases_laws = (going_start, going_end, going-over, going-malformed, going-differs, going_more)
 
-module _ (s : List ℕ) (r : Number) (e : numbered s r ≡ cases_line s) where
-  pub all-malformed : r ≡ Number.Malformed → Outcome.Malformed 0 ≡ replayed s
+module _ (s : List ℕ) (r : Option (ℕ × ℕ)) (e : numbered s r ≡ cases_line s) where
+  pub all-malformed : r ≡ None → Err (Stops.Malformed 0) ≡ replayed s
   unfolding replayed
   all-malformed m = rw (← e, m)
 
-  pub all-cases : (n i : ℕ) (o : Outcome) → r ≡ Number.Value n i → o ≡ outcome n 0 (drop i s) → o ≡ replayed s
+  pub all-cases : (n i : ℕ) (o : Result ℕ Stop) → r ≡ Some (n, i) → o ≡ outcome n 0 (drop i s) → o ≡ replayed s
   unfolding replayed
   all-cases n i o m q = q ∙ rw (← e, m)
 

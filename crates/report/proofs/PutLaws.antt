@@ -6,7 +6,6 @@ use lib.Ieee.{Float}
 use Rattle.answer.specs.declared.Refusal.{Refusal}
 use Rattle.answer.specs.declared.Ratio.{Ratio}
 use Rattle.answer.specs.declared.Moved.{Moved}
-use Rattle.answer.specs.declared.Answer.{Answer}
 use Rattle.answer.specs.declared.Answer.TheVariants as Answers
 use Rattle.answer.specs.Answers.{number_of, detail_of}
 use Rattle.random.specs.declared.Random.{Random}
@@ -60,22 +59,6 @@ unfolding refused_text line comma write
 refused-put w a b v why n d en ed ea eb ev = rw (← en, ← ed) (line-put w a b v (bytes "answer=refused,") (comma (decimal_text n) (decimal_text d)) ea eb ev)
 
 pub ruleset part_laws = (line-put, random-put, drawn-put, odds-put, tree-put, declined-put, moved-put, refused-put)
-
--- an answer by its kind
-module _ (w v : Written) (answer : Answer) (g : Random) (pairs : List ℕ) (heights : List Float) where
-  pub answer-moved : (m : Moved) → answer ≡ Answers.Moved m → v ≡ write w (answer_text (Answers.Moved m) g pairs heights) → v ≡ write w (answer_text answer g pairs heights)
-  answer-moved m e ev = rw e ev
-
-  pub answer-declined : (draws : ℕ) → answer ≡ Answers.Declined draws → v ≡ write w (line (bytes "answer=") (bytes "declined") ++ drawn_text draws g)
-      → v ≡ write w (answer_text answer g pairs heights)
-  unfolding answer_text
-  answer-declined draws e ev = rw e ev
-
-  pub answer-refused : (why : Refusal) → answer ≡ Answers.Refused why → v ≡ write w (refused_text why) → v ≡ write w (answer_text answer g pairs heights)
-  unfolding answer_text
-  answer-refused why e ev = rw e ev
-
-pub ruleset answer_laws = (answer-moved, answer-declined, answer-refused)
 
 -- ---- a text where it fits
 

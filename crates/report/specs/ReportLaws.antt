@@ -7,7 +7,7 @@ use Rattle.answer.specs.declared.Moved.{Moved}
 use Rattle.answer.specs.declared.Answer.TheVariants as Answers
 use Rattle.answer.specs.Answers.{number_of, detail_of}
 use Rattle.random.specs.declared.Random.{Random}
-use Rattle.text.specs.Text.{bytes, decimal_text}
+use Rattle.text.specs.Text.{decimal_text}
 use Rattle.print.specs.Writing.{written, write}
 use Rattle.print.specs.WritingLaws.{write-whole}
 use Rattle.notation.specs.Notation.{ratio_text, pairs_text}

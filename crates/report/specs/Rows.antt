@@ -1,6 +1,5 @@
 -- Texts of answers, as rows of one statement on the definitions (`report-rows`): document 01's example, and one of each other kind. Assumes nothing.
 use Rattle.std.specs.Prelude.{◌≡◌, refl, [], ◌∷◌, pos, negsuc}
-use Rattle.std.specs.Float.{binary64}
 use Rattle.std.specs.Float.Ieee.{of_bits, to_bits, size, round}
 use Rattle.answer.specs.declared.Ratio.TheVariants.{Even, Counts, Lengths, Power}
 use Rattle.answer.specs.declared.Refusal.TheVariants as Refusals

@@ -1,4 +1,3 @@
 -- The laws that the proofs of respond share: one for each way through a function.
-mod MakeLaws
 mod StateLaws
 mod FileLaws

@@ -19,9 +19,13 @@ use forms::{Kind, Words};
 use heights::{node_height_unvalidated, root_scale_unvalidated, tree_scale_unvalidated};
 use random::Random;
 use slide::subtree_slide_unvalidated;
-use statefile::{Asked, FileRead, Head};
-use tree::Rooted;
+use statefile::{Asked, Head};
 use wilson::wilson_balding_unvalidated;
+
+// The nodes of the largest tree, and those of a short file's.
+const MOST_NODES: usize = 4095;
+
+const FEW_NODES: usize = 511;
 
 // A tree of a file of so many bytes has at most 511 nodes: each height takes 24.
 const SHORT: usize = 12288;
@@ -38,30 +42,29 @@ fn make(
 ) -> Answered
     ensures { UnvalidatedCall (move_of asked.kind asked.node asked.tuning) (tree_of pairs.old parents.old heights.old root) random allowed (called result.answer result.random pairs.new parents.new heights.new) }
 {
-    let k = asked.node;
+    let node = asked.node;
     let x = asked.tuning;
-    let kind = asked.kind;
-    match kind {
+    match asked.kind {
         Kind::NodeHeight => {
-            return node_height_unvalidated(pairs, parents, heights, root, random, allowed);
+            node_height_unvalidated(pairs, parents, heights, root, random, allowed)
         }
         Kind::SubtreeSlide => {
-            return subtree_slide_unvalidated(pairs, parents, heights, root, k, x, random, allowed);
+            subtree_slide_unvalidated(pairs, parents, heights, root, node, x, random, allowed)
         }
         Kind::NarrowExchange => {
-            return narrow_exchange_unvalidated(pairs, parents, heights, root, random, allowed);
+            narrow_exchange_unvalidated(pairs, parents, heights, root, random, allowed)
         }
         Kind::WideExchange => {
-            return wide_exchange_unvalidated(pairs, parents, heights, root, random, allowed);
+            wide_exchange_unvalidated(pairs, parents, heights, root, random, allowed)
         }
         Kind::WilsonBalding => {
-            return wilson_balding_unvalidated(pairs, parents, heights, root, random, allowed);
+            wilson_balding_unvalidated(pairs, parents, heights, root, random, allowed)
         }
         Kind::RootScale => {
-            return root_scale_unvalidated(pairs, parents, heights, root, x, random, allowed);
+            root_scale_unvalidated(pairs, parents, heights, root, x, random, allowed)
         }
         Kind::TreeScale => {
-            return tree_scale_unvalidated(pairs, parents, heights, root, x, random, allowed);
+            tree_scale_unvalidated(pairs, parents, heights, root, x, random, allowed)
         }
     }
 }
@@ -84,27 +87,23 @@ fn answer_state(
     requires { Lent pairs.old parents.old heights.old }
     ensures { delivery result out.new ≡ delivered out.old (state_reply (state_of head (nodes pairs.old heights.old))) }
 {
-    let rooted = tree::new(pairs, heights, parents);
-    match rooted {
-        Rooted::Refused(why) => {
-            return report::put_refusal(out, why);
-        }
-        Rooted::Root(root) => {
-            let asked = head.asked;
+    match tree::new(pairs, heights, parents) {
+        Ok(root) => {
             let supplied = head.supplied;
-            let words = supplied.words;
-            let random = generator(words);
-            let answered = make(asked, pairs, parents, heights, root, random, supplied.draws);
-            return report::put_report(out, answered, pairs, heights);
+            let random = generator(supplied.words);
+            let answered = make(
+                head.asked,
+                pairs,
+                parents,
+                heights,
+                root,
+                random,
+                supplied.draws,
+            );
+            report::put_report(out, answered, pairs, heights)
         }
+        Err(why) => report::put_refusal(out, why),
     }
-}
-
-// What comes of a try to answer a file in lent slices: how long the answer is, or that they have no room for its tree.
-#[derive(Clone, Copy)]
-enum Tried {
-    Answered(usize),
-    NoRoom,
 }
 
 // The answer of a file that is not too long, its tree being read into the slices.
@@ -114,97 +113,48 @@ fn respond_in(
     parents: &mut [u16],
     heights: &mut [f64],
     out: &mut [u8],
-) -> Tried
+) -> Option<usize>
     requires { Room pairs.old parents.old heights.old }
     ensures { tried file.now (length heights.old) out.old result out.new }
 {
-    let read = statefile::read_state(file, pairs, heights);
-    match read {
-        FileRead::Wrong(line) => {
-            return Tried::Answered(report::put_refusal(out, Refusal::Line(line)));
-        }
-        FileRead::Read(head) => {
+    match statefile::read_state(file, pairs, heights) {
+        Ok(head) => {
             let n = statefile::node_count(head.tips);
-            if 4095 < n {
-                return Tried::Answered(report::put_refusal(out, Refusal::Size(n)));
+            if MOST_NODES < n {
+                return Some(report::put_refusal(out, Refusal::Size(n)));
             }
             if heights.len() < n {
-                return Tried::NoRoom;
+                return None;
             }
-            let m = n + n;
-            return Tried::Answered(answer_state(
+            Some(answer_state(
                 head,
-                &mut pairs[..m],
+                &mut pairs[..n + n],
                 &mut parents[..n],
                 &mut heights[..n],
                 out,
-            ));
+            ))
         }
+        Err(wrong) => Some(report::put_refusal(out, Refusal::Line(wrong.0))),
     }
-}
-
-// Room for the pairs of the largest tree, and for one number of each of its nodes.
-fn pairs_room() -> [u16; 8190]
-    ensures { length result ≡ 8190 }
-{
-    [0u16; 8190]
-}
-
-fn parents_room() -> [u16; 4095]
-    ensures { length result ≡ 4095 }
-{
-    [0u16; 4095]
-}
-
-fn heights_room() -> [f64; 4095]
-    ensures { length result ≡ 4095 }
-{
-    [0.0; 4095]
 }
 
 // In room for any tree.
 fn respond_long(file: &[u8], out: &mut [u8]) -> usize
     ensures { delivery result out.new ≡ delivered out.old (read_reply (state_file file.now)) }
 {
-    let mut pairs = pairs_room();
-    let mut parents = parents_room();
-    let mut heights = heights_room();
-    match respond_in(file, &mut pairs, &mut parents, &mut heights, out) {
-        Tried::Answered(count) => {
-            return count;
-        }
-        Tried::NoRoom => {
-            return 0;
-        }
-    }
-}
-
-// Room for a tree of 511 nodes.
-fn pairs_short() -> [u16; 1022]
-    ensures { length result ≡ 1022 }
-{
-    [0u16; 1022]
-}
-
-fn parents_short() -> [u16; 511]
-    ensures { length result ≡ 511 }
-{
-    [0u16; 511]
-}
-
-fn heights_short() -> [f64; 511]
-    ensures { length result ≡ 511 }
-{
-    [0.0; 511]
+    let mut pairs = [0; 2 * MOST_NODES];
+    let mut parents = [0; MOST_NODES];
+    let mut heights = [0.0; MOST_NODES];
+    respond_in(file, &mut pairs, &mut parents, &mut heights, out).unwrap_or(0)
 }
 
 // In room for a tree of 511 nodes, which is cleared in less time.
-fn respond_short(file: &[u8], out: &mut [u8]) -> Tried
+fn respond_short(file: &[u8], out: &mut [u8]) -> Option<usize>
     ensures { tried file.now 511 out.old result out.new }
 {
-    let mut pairs = pairs_short();
-    let mut parents = parents_short();
-    let mut heights = heights_short();
+    let mut pairs = [0; 2 * FEW_NODES];
+    let mut parents = [0; FEW_NODES];
+    let mut heights = [0.0; FEW_NODES];
     respond_in(file, &mut pairs, &mut parents, &mut heights, out)
 }
 
@@ -212,25 +162,22 @@ fn respond_short(file: &[u8], out: &mut [u8]) -> Tried
 fn respond_to(file: &[u8], out: &mut [u8]) -> usize
     ensures { delivery result out.new ≡ delivered out.old (read_reply (state_file file.now)) }
 {
-    if SHORT < file.len() {
-        return respond_long(file, out);
-    }
-    match respond_short(file, out) {
-        Tried::Answered(count) => {
+    if file.len() <= SHORT {
+        if let Some(count) = respond_short(file, out) {
             return count;
         }
-        Tried::NoRoom => {
-            return respond_long(file, out);
-        }
     }
+    respond_long(file, out)
 }
 
 // The answer of a state file of at most so many bytes, at the start of `out`, and how long it is; 0, with nothing written, where `out` is too short.
+#[tactic(auto, unfolding(crate::specs::Respond::file_reply))]
 pub fn respond(file: &[u8], limit: usize, out: &mut [u8]) -> usize
     ensures { delivery result out.new ≡ delivered out.old (file_reply limit file.now) }
 {
     if limit < file.len() {
-        return report::put_refusal(out, Refusal::Line(0));
+        report::put_refusal(out, Refusal::Line(0))
+    } else {
+        respond_to(file, out)
     }
-    respond_to(file, out)
 }

@@ -1,6 +1,6 @@
 -- The theorem of demand 3, and the laws that lead to it and rest on what it asks.
-mod NarrowLaws
-mod SlideUpLaws
-mod SlideDownLaws
-mod SlideLaws
+pub mod NarrowLaws
+pub mod SlideUpLaws
+pub mod SlideDownLaws
+pub mod SlideLaws
 pub mod Reversal

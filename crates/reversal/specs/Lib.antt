@@ -1,5 +1,5 @@
--- Demand 3: Reversed says what it asks, Reversal that it is so, and that every reversible move keeps a tree valid. Back asks the same of one choice on a
--- valid tree; the rest are laws.
+-- Demand 3: Reversed says what it asks. Back asks the same of one choice on a valid tree; the rest are laws. In proofs/, Reversal shows that it is so, and that
+-- every reversible move keeps a tree valid; NarrowLaws, SlideUpLaws, SlideDownLaws and SlideLaws lead to it.
 pub mod Reversed
 pub mod Back
 pub mod FailedLaws

@@ -1,2 +1,2 @@
-// Theorems only: specs/ shows that each of the five moves can be taken back with its ratio turned over. Assumes nothing.
+// Theorems only: specs/ says that each of the five moves can be taken back with its ratio turned over, and proofs/ shows it. Assumes nothing.
 #![tactic(auto)]

@@ -8,104 +8,97 @@ ghost use Rattle.moves.specs.Moves.{node_height, subtree_slide, narrow_exchange,
 ghost use Rattle.record.specs.Record.{written, node_in, tuning_in};
 ghost use Rattle.rove.specs.Exports.{left, filled, exported, start_exported, validate_exported, new_exported, postorder_exported, seed_exported, next_exported, below_exported, below_left, root_left, begun_left};
 
-use random::{Below, DrawnBelow, Random};
+use random::Random;
 use record::NO_RECORD;
-use slide::{Begun, Started};
-use tree::Rooted;
+use slide::Started;
+use tree::Tree;
 
 // ---- the generator
 
 // The generator of a seed, into words 0 to 3.
+#[tactic(auto, unfolding(crate::specs::Exports::seed_exported))]
 pub fn rove_seed(words: &mut [u64], seed: u64) -> u64
     ensures { written result words.new ≡ seed_exported seed words.old }
 {
-    if record::is_record(words) {
-        record::put_generator(words, Random::new(seed));
-        return 0;
+    if !record::is_record(words) {
+        return NO_RECORD;
     }
-    NO_RECORD
+    record::put_generator(words, Random::new(seed));
+    0
 }
 
 // One draw.
+#[tactic(auto, unfolding(crate::specs::Exports::next_exported))]
 pub fn rove_next_u64(words: &mut [u64]) -> u64
     ensures { written result words.new ≡ next_exported words.old }
 {
-    if record::is_record(words) {
-        let d = record::generator(words).next_u64();
-        let random = d.random;
-        record::put_generator(words, random);
-        return record::put_given(words, 1, d.value, 0);
+    if !record::is_record(words) {
+        return NO_RECORD;
     }
-    NO_RECORD
-}
-
-fn put_below(words: &mut [u64], d: DrawnBelow) -> u64
-    requires { 32 ≤ length words.old }
-    ensures { written result words.new ≡ below_left d.answer d.random words.old }
-{
-    let random = d.random;
-    let answer = d.answer;
-    match answer {
-        Below::Drawn(k, draws) => {
-            record::put_generator(words, random);
-            return record::put_given(words, draws, k as u64, 0);
-        }
-        Below::Refused(why) => {
-            return record::put_refusal(words, why);
-        }
-    }
+    let (word, random) = record::generator(words).next_u64();
+    record::put_generator(words, random);
+    record::put_given(words, 1, word, 0)
 }
 
 // A number below word 6.
+#[tactic(auto, unfolding(crate::specs::Exports::below_exported))]
 pub fn rove_below(words: &mut [u64]) -> u64
     ensures { written result words.new ≡ below_exported words.old }
 {
-    if record::is_record(words) {
-        let d = record::generator(words).below(record::node(words), record::allowance(words));
-        return put_below(words, d);
+    if !record::is_record(words) {
+        return NO_RECORD;
     }
-    NO_RECORD
+    let (answer, random) = record::generator(words).below(
+        record::node(words),
+        record::allowance(words),
+    );
+    match answer {
+        Ok((k, draws)) => {
+            record::put_generator(words, random);
+            record::put_given(words, draws, k as u64, 0)
+        }
+        Err(why) => record::put_refusal(words, why),
+    }
 }
 
 // ---- the tree
 
-fn put_rooted(words: &mut [u64], rooted: Rooted) -> u64
-    requires { 32 ≤ length words.old }
-    ensures { written result words.new ≡ root_left rooted words.old }
-{
-    match rooted {
-        Rooted::Root(root) => {
-            record::put_root(words, root);
-            return record::put_given(words, 0, 0, 0);
-        }
-        Rooted::Refused(why) => {
-            return record::put_refusal(words, why);
-        }
-    }
-}
-
 // `Tree::new`: the parents and the root of the pairs.
+#[tactic(auto, unfolding(crate::specs::Exports::new_exported))]
 pub fn rove_new(words: &mut [u64], pairs: &[u16], heights: &[f64], parents: &mut [u16]) -> u64
     ensures { filled (written result words.new) parents.new ≡ new_exported pairs.now heights.now parents.old words.old }
 {
-    if record::is_record(words) {
-        let rooted = tree::new(pairs, heights, parents);
-        return put_rooted(words, rooted);
+    if !record::is_record(words) {
+        return NO_RECORD;
     }
-    NO_RECORD
+    match tree::new(pairs, heights, parents) {
+        Ok(root) => {
+            record::put_root(words, root);
+            record::put_given(words, 0, 0, 0)
+        }
+        Err(why) => record::put_refusal(words, why),
+    }
 }
 
+#[tactic(auto, unfolding(crate::specs::Exports::validate_exported))]
 pub fn rove_validate(words: &mut [u64], pairs: &[u16], parents: &[u16], heights: &[f64]) -> u64
     ensures { written result words.new ≡ validate_exported pairs.now parents.now heights.now words.old }
 {
-    if record::is_record(words) {
-        let verdict = quick::validate(pairs, parents, heights, record::root(words));
-        return record::put_verdict(words, verdict);
+    if !record::is_record(words) {
+        return NO_RECORD;
     }
-    NO_RECORD
+    let tree = Tree {
+        pairs,
+        parents,
+        heights,
+        root: record::root(words),
+    };
+    let verdict = quick::validate(&tree);
+    record::put_verdict(words, verdict)
 }
 
 // Every node with both children before their parent, into `order`.
+#[tactic(auto, unfolding(crate::specs::Exports::postorder_exported))]
 pub fn rove_postorder(
     words: &mut [u64],
     pairs: &[u16],
@@ -115,15 +108,22 @@ pub fn rove_postorder(
 ) -> u64
     ensures { filled (written result words.new) order.new ≡ postorder_exported pairs.now parents.now heights.now order.old words.old }
 {
-    if record::is_record(words) {
-        let verdict = order::postorder(pairs, parents, heights, record::root(words), order);
-        return record::put_verdict(words, verdict);
+    if !record::is_record(words) {
+        return NO_RECORD;
     }
-    NO_RECORD
+    let tree = Tree {
+        pairs,
+        parents,
+        heights,
+        root: record::root(words),
+    };
+    let verdict = order::postorder(&tree, order);
+    record::put_verdict(words, verdict)
 }
 
 // ---- the moves
 
+#[tactic(auto, unfolding(crate::specs::Exports::exported))]
 pub fn rove_node_height(
     words: &mut [u64],
     pairs: &[u16],
@@ -132,20 +132,19 @@ pub fn rove_node_height(
 ) -> u64
     ensures { left (written result words.new) pairs.now parents.now heights.new ≡ exported node_height pairs.now parents.now heights.old words.old }
 {
-    if record::is_record(words) {
-        let given = record::read(words);
-        let random = given.random;
-        let answered = heights::node_height(
-            pairs,
-            parents,
-            heights,
-            given.root,
-            random,
-            given.allowance,
-        );
-        return record::put_answer(words, answered);
+    if !record::is_record(words) {
+        return NO_RECORD;
     }
-    NO_RECORD
+    let given = record::read(words);
+    let answered = heights::node_height(
+        pairs,
+        parents,
+        heights,
+        given.root,
+        given.random,
+        given.allowance,
+    );
+    record::put_answer(words, answered)
 }
 
 // The answer of a slide's first call.
@@ -153,46 +152,42 @@ pub fn put_started(words: &mut [u64], started: Started) -> u64
     requires { 32 ≤ length words.old }
     ensures { written result words.new ≡ begun_left started.answer started.random words.old }
 {
-    let random = started.random;
-    let answer = started.answer;
-    match answer {
-        Begun::Node(s) => {
-            record::put_generator(words, random);
+    match started.answer {
+        Ok(s) => {
+            record::put_generator(words, started.random);
             record::put_node(words, s.node);
-            return record::put_given(
+            record::put_given(
                 words,
                 s.draws,
                 real::to_bits(s.first),
                 real::to_bits(s.second),
-            );
+            )
         }
-        Begun::Refused(why) => {
-            return record::put_refusal(words, why);
-        }
+        Err(why) => record::put_refusal(words, why),
     }
 }
 
 // The first call of SubtreeSlide: a node into word 6, and two uniforms.
+#[tactic(auto, unfolding(crate::specs::Exports::start_exported))]
 pub fn rove_slide_start(words: &mut [u64], pairs: &[u16], parents: &[u16], heights: &[f64]) -> u64
     ensures { written result words.new ≡ start_exported pairs.now parents.now heights.now words.old }
 {
-    if record::is_record(words) {
-        let given = record::read(words);
-        let random = given.random;
-        let started = slide::slide_start(
-            pairs,
-            parents,
-            heights,
-            given.root,
-            random,
-            given.allowance,
-        );
-        return put_started(words, started);
+    if !record::is_record(words) {
+        return NO_RECORD;
     }
-    NO_RECORD
+    let given = record::read(words);
+    let tree = Tree {
+        pairs,
+        parents,
+        heights,
+        root: given.root,
+    };
+    let started = slide::slide_start(&tree, given.random, given.allowance);
+    put_started(words, started)
 }
 
 // The second call of SubtreeSlide, with the node in word 6 and the step in word 7.
+#[tactic(auto, unfolding(crate::specs::Exports::exported))]
 pub fn rove_subtree_slide(
     words: &mut [u64],
     pairs: &mut [u16],
@@ -201,26 +196,24 @@ pub fn rove_subtree_slide(
 ) -> u64
     ensures { left (written result words.new) pairs.new parents.new heights.new ≡ exported (subtree_slide (node_in words.old) (tuning_in words.old)) pairs.old parents.old heights.old words.old }
 {
-    if record::is_record(words) {
-        let given = record::read(words);
-        let random = given.random;
-        let node = record::node(words);
-        let step = record::tuning(words);
-        let answered = slide::subtree_slide(
-            pairs,
-            parents,
-            heights,
-            given.root,
-            node,
-            step,
-            random,
-            given.allowance,
-        );
-        return record::put_answer(words, answered);
+    if !record::is_record(words) {
+        return NO_RECORD;
     }
-    NO_RECORD
+    let given = record::read(words);
+    let answered = slide::subtree_slide(
+        pairs,
+        parents,
+        heights,
+        given.root,
+        record::node(words),
+        record::tuning(words),
+        given.random,
+        given.allowance,
+    );
+    record::put_answer(words, answered)
 }
 
+#[tactic(auto, unfolding(crate::specs::Exports::exported))]
 pub fn rove_narrow_exchange(
     words: &mut [u64],
     pairs: &mut [u16],
@@ -229,22 +222,22 @@ pub fn rove_narrow_exchange(
 ) -> u64
     ensures { left (written result words.new) pairs.new parents.new heights.now ≡ exported narrow_exchange pairs.old parents.old heights.now words.old }
 {
-    if record::is_record(words) {
-        let given = record::read(words);
-        let random = given.random;
-        let answered = exchanges::narrow_exchange(
-            pairs,
-            parents,
-            heights,
-            given.root,
-            random,
-            given.allowance,
-        );
-        return record::put_answer(words, answered);
+    if !record::is_record(words) {
+        return NO_RECORD;
     }
-    NO_RECORD
+    let given = record::read(words);
+    let answered = exchanges::narrow_exchange(
+        pairs,
+        parents,
+        heights,
+        given.root,
+        given.random,
+        given.allowance,
+    );
+    record::put_answer(words, answered)
 }
 
+#[tactic(auto, unfolding(crate::specs::Exports::exported))]
 pub fn rove_wide_exchange(
     words: &mut [u64],
     pairs: &mut [u16],
@@ -253,22 +246,22 @@ pub fn rove_wide_exchange(
 ) -> u64
     ensures { left (written result words.new) pairs.new parents.new heights.now ≡ exported wide_exchange pairs.old parents.old heights.now words.old }
 {
-    if record::is_record(words) {
-        let given = record::read(words);
-        let random = given.random;
-        let answered = exchanges::wide_exchange(
-            pairs,
-            parents,
-            heights,
-            given.root,
-            random,
-            given.allowance,
-        );
-        return record::put_answer(words, answered);
+    if !record::is_record(words) {
+        return NO_RECORD;
     }
-    NO_RECORD
+    let given = record::read(words);
+    let answered = exchanges::wide_exchange(
+        pairs,
+        parents,
+        heights,
+        given.root,
+        given.random,
+        given.allowance,
+    );
+    record::put_answer(words, answered)
 }
 
+#[tactic(auto, unfolding(crate::specs::Exports::exported))]
 pub fn rove_wilson_balding(
     words: &mut [u64],
     pairs: &mut [u16],
@@ -277,23 +270,23 @@ pub fn rove_wilson_balding(
 ) -> u64
     ensures { left (written result words.new) pairs.new parents.new heights.new ≡ exported wilson_balding pairs.old parents.old heights.old words.old }
 {
-    if record::is_record(words) {
-        let given = record::read(words);
-        let random = given.random;
-        let answered = wilson::wilson_balding(
-            pairs,
-            parents,
-            heights,
-            given.root,
-            random,
-            given.allowance,
-        );
-        return record::put_answer(words, answered);
+    if !record::is_record(words) {
+        return NO_RECORD;
     }
-    NO_RECORD
+    let given = record::read(words);
+    let answered = wilson::wilson_balding(
+        pairs,
+        parents,
+        heights,
+        given.root,
+        given.random,
+        given.allowance,
+    );
+    record::put_answer(words, answered)
 }
 
 // With the tuning in word 7.
+#[tactic(auto, unfolding(crate::specs::Exports::exported))]
 pub fn rove_root_scale(
     words: &mut [u64],
     pairs: &[u16],
@@ -302,25 +295,24 @@ pub fn rove_root_scale(
 ) -> u64
     ensures { left (written result words.new) pairs.now parents.now heights.new ≡ exported (root_scale (tuning_in words.old)) pairs.now parents.now heights.old words.old }
 {
-    if record::is_record(words) {
-        let given = record::read(words);
-        let random = given.random;
-        let tuning = record::tuning(words);
-        let answered = heights::root_scale(
-            pairs,
-            parents,
-            heights,
-            given.root,
-            tuning,
-            random,
-            given.allowance,
-        );
-        return record::put_answer(words, answered);
+    if !record::is_record(words) {
+        return NO_RECORD;
     }
-    NO_RECORD
+    let given = record::read(words);
+    let answered = heights::root_scale(
+        pairs,
+        parents,
+        heights,
+        given.root,
+        record::tuning(words),
+        given.random,
+        given.allowance,
+    );
+    record::put_answer(words, answered)
 }
 
 // With the tuning in word 7.
+#[tactic(auto, unfolding(crate::specs::Exports::exported))]
 pub fn rove_tree_scale(
     words: &mut [u64],
     pairs: &[u16],
@@ -329,20 +321,18 @@ pub fn rove_tree_scale(
 ) -> u64
     ensures { left (written result words.new) pairs.now parents.now heights.new ≡ exported (tree_scale (tuning_in words.old)) pairs.now parents.now heights.old words.old }
 {
-    if record::is_record(words) {
-        let given = record::read(words);
-        let random = given.random;
-        let tuning = record::tuning(words);
-        let answered = heights::tree_scale(
-            pairs,
-            parents,
-            heights,
-            given.root,
-            tuning,
-            random,
-            given.allowance,
-        );
-        return record::put_answer(words, answered);
+    if !record::is_record(words) {
+        return NO_RECORD;
     }
-    NO_RECORD
+    let given = record::read(words);
+    let answered = heights::tree_scale(
+        pairs,
+        parents,
+        heights,
+        given.root,
+        record::tuning(words),
+        given.random,
+        given.allowance,
+    );
+    record::put_answer(words, answered)
 }

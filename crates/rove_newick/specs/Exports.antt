@@ -1,14 +1,14 @@
 -- What each exported function leaves: the answer code that it returns, the words of its record and the slices lent to it. Each is the call of crate newick, with its
 -- answer written into the record; where the words are no record, 3, and nothing is changed. Definitions only. Assumes nothing.
-use Rattle.std.specs.Prelude.{cond, List, ℕ, Float}
+use Rattle.std.specs.Prelude.{cond, List, ℕ, Float, Result, Ok, Err}
 use Rattle.tree.specs.Given.{tree_of}
 use Rattle.record.specs.declared.Reply.{Reply}
 use Rattle.record.specs.Record.{root_in, Written, written, is_record, no_record, replied, reply, given_reply, refused_reply}
-use Rattle.newick.specs.declared.Copied.{Copied}
-use Rattle.newick.specs.declared.Copied.TheVariants as Copieds
-use Rattle.newick.specs.declared.Taken.{Taken}
-use Rattle.newick.specs.declared.Taken.TheVariants as Takens
 use Rattle.newick.specs.Copies.{copy_call, read_call}
+use Rattle.newick.specs.declared.CopyError.TheVariants as CopyErrors
+use Rattle.newick.specs.declared.ReadError.{ReadError}
+use Rattle.newick.specs.declared.ReadError.TheVariants as ReadErrors
+use Rattle.newick.specs.declared.CopyError.{CopyError}
 
 -- a refusal by its number and detail, as `refused_reply` has document 01's
 abbrev pub turned_back : ℕ → ℕ → Reply
@@ -21,10 +21,10 @@ room_reply = turned_back 10 0
 -- ---- the writer
 
 -- the bytes written as the first value
-unfoldable pub copied_left : Copied → List ℕ → Written
-copied_left (Copieds.Bytes count) words = replied (given_reply 0 count 0) words
-copied_left (Copieds.Refused why) words = replied (refused_reply why) words
-copied_left Copieds.Room words = replied room_reply words
+unfoldable pub copied_left : Result ℕ CopyError → List ℕ → Written
+copied_left (Ok count) words = replied (given_reply 0 count 0) words
+copied_left (Err (CopyErrors.Refused why)) words = replied (refused_reply why) words
+copied_left (Err CopyErrors.Room) words = replied room_reply words
 
 pub record CopyLeft : Type 0 where
   pub written : Written
@@ -43,10 +43,10 @@ write_exported pairs parents heights out words =
 -- ---- the reader
 
 -- the nodes as the first value; "with 9 [...], the detail then being the place"
-unfoldable pub taken_left : Taken → List ℕ → Written
-taken_left (Takens.Nodes count) words = replied (given_reply 0 count 0) words
-taken_left (Takens.Place place) words = replied (turned_back 9 place) words
-taken_left Takens.Room words = replied room_reply words
+unfoldable pub taken_left : Result ℕ ReadError → List ℕ → Written
+taken_left (Ok count) words = replied (given_reply 0 count 0) words
+taken_left (Err (ReadErrors.Place place)) words = replied (turned_back 9 place) words
+taken_left (Err ReadErrors.Room) words = replied room_reply words
 
 pub record ReadLeft : Type 0 where
   pub written : Written

@@ -1,7 +1,7 @@
 -- What each exported function leaves: the answer code that it returns, the slice that it is lent to change, and the words of its record. Each is the
 -- call that other crates define, on what the record holds, with its answer written into the record; where the words are no record, 3, and nothing is
 -- changed (`on_record`, `lent_on`). Definitions only. Assumes nothing.
-use Rattle.std.specs.Prelude.{cond, List, ℕ, Float}
+use Rattle.std.specs.Prelude.{cond, List, ℕ, Float, Option, Some, None}
 use Rattle.answer.specs.declared.Refusal.TheVariants.{Parameter}
 use Rattle.random.specs.declared.Random.{Random}
 use Rattle.tree.specs.Tree.{Tree}
@@ -23,8 +23,6 @@ use Rattle.dating.specs.TipAge.{tip_age_call}
 use Rattle.clades.specs.Clades.{monophyly_call, age_call}
 use Rattle.marks.specs.Marks.{marks_of}
 use Rattle.record.specs.Record.{is_record, no_record, real_in, generator_in, root_in, allowance_in, node_in, tuning_in, Written, written, on_record, replied, refused_reply, proposed, answered, judged}
-use Rattle.record_parameters.specs.declared.Choice.{Choice}
-use Rattle.record_parameters.specs.declared.Choice.TheVariants.{Of, Nothing}
 use Rattle.record_parameters.specs.Parameters.{optional_in, speciation_in, process_in, priors_in, chosen_in, with_real, with_optional, with_speciation, with_process, proposed_left}
 use Rattle.record_parameters.specs.Answers.{rate_left, stored_left, sigma_left, density_left, monophyly_left, age_left}
 
@@ -80,9 +78,9 @@ abbrev pub field_left : Field → List ℕ → Written
 field_left field words = call_left with_process (fbd_call field (priors_in words) (process_in words) (real_in words 29) (tuning_in words)) words
 
 -- a number that names no field is a 5 with detail 0
-unfoldable pub chosen_left : Choice → List ℕ → Written
-chosen_left (Of field) words = field_left field words
-chosen_left Nothing words = replied (refused_reply (Parameter 0)) words
+unfoldable pub chosen_left : Option Field → List ℕ → Written
+chosen_left (Some field) words = field_left field words
+chosen_left None words = replied (refused_reply (Parameter 0)) words
 
 abbrev pub fbd_exported : List ℕ → Written
 fbd_exported words = on_record words (chosen_left (chosen_in words) words)

@@ -5,7 +5,6 @@ use mathlib.Core.List.{List}
 use Prim.Native.Nat.{ℕ}
 use lib.Ieee.{Float}
 use Rattle.answer.specs.declared.Refusal.TheVariants.{Parameter}
-use Rattle.tree.specs.declared.Verdict.TheVariants as Verdicts
 use Rattle.tree.specs.Tree.{Tree}
 use Rattle.tree.specs.Given.{tree_of}
 use Rattle.calls.specs.declared.Answered.{Answered}
@@ -22,6 +21,7 @@ use Rattle.record.specs.AllowanceLaws.{limited-outside, limited-word}
 use Rattle.record.specs.RoomLaws.{ready-is}
 use Rattle.rove.specs.Exports.{left, tree_in, begun_left}
 use Rattle.rove_unvalidated.specs.Unvalidated.{UnvalidatedExport, on-record, off_record, unvalidated_start_exported}
+use Rattle.std.specs.Prelude.{Err}
 
 -- ---- words that are not ready
 
@@ -30,7 +30,7 @@ module _ (words : List ℕ) (n : is_ready words ≡ false) (pairs parents : List
   t = tree_in pairs parents heights words
 
   -- the allowance of words that are a record is refused, whatever else is checked
-  over : is_record words ≡ true → (within : Bool) → limited within (allowance_in words) ≡ Verdicts.Refused (Parameter 0)
+  over : is_record words ≡ true → (within : Bool) → limited within (allowance_in words) ≡ Err (Parameter 0)
   over e within = limited-word words within ∙ limited-outside within (word_in words 5) (rw e at n)
 
   unready-start : unready words ≡ unvalidated_start_exported pairs parents heights words
@@ -50,7 +50,7 @@ module _ (words : List ℕ) (n : is_ready words ≡ false) (pairs parents : List
       go false e = off_record e
       go true e =
           on-record e _
-          (unvalidated-refused pairs parents heights _ (limits m t) (limits m t) refl (allowance_in words) (Verdicts.Refused (Parameter 0)) (sym (over e (limits m t)))
+          (unvalidated-refused pairs parents heights _ (limits m t) (limits m t) refl (allowance_in words) (Err (Parameter 0)) (sym (over e (limits m t)))
           (program m t) (generator_in words) (Parameter 0) refl (turned_back (Parameter 0) (generator_in words)) refl)
 
 -- ---- the ways

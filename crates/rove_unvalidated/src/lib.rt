@@ -11,6 +11,8 @@ ghost use Rattle.record.specs.Record.{written, node_in, tuning_in};
 ghost use Rattle.rove.specs.Exports.{left};
 ghost use Rattle.rove_unvalidated.specs.Unvalidated.{UnvalidatedExport, unvalidated_start_exported};
 
+use tree::Tree;
+
 pub fn rove_node_height_unvalidated(
     words: &mut [u64],
     pairs: &[u16],
@@ -19,20 +21,19 @@ pub fn rove_node_height_unvalidated(
 ) -> u64
     ensures { UnvalidatedExport node_height pairs.now parents.now heights.old words.old (left (written result words.new) pairs.now parents.now heights.new) }
 {
-    if record::is_ready(words) {
-        let given = record::read(words);
-        let random = given.random;
-        let answered = heights::node_height_unvalidated(
-            pairs,
-            parents,
-            heights,
-            given.root,
-            random,
-            given.allowance,
-        );
-        return record::put_answer(words, answered);
+    if !record::is_ready(words) {
+        return record::put_unready(words);
     }
-    record::put_unready(words)
+    let given = record::read(words);
+    let answered = heights::node_height_unvalidated(
+        pairs,
+        parents,
+        heights,
+        given.root,
+        given.random,
+        given.allowance,
+    );
+    record::put_answer(words, answered)
 }
 
 // The first call of SubtreeSlide: a node into word 6, and two uniforms.
@@ -44,20 +45,18 @@ pub fn rove_slide_start_unvalidated(
 ) -> u64
     ensures { written result words.new ≡ unvalidated_start_exported pairs.now parents.now heights.now words.old }
 {
-    if record::is_ready(words) {
-        let given = record::read(words);
-        let random = given.random;
-        let started = slide::slide_start_unvalidated(
-            pairs,
-            parents,
-            heights,
-            given.root,
-            random,
-            given.allowance,
-        );
-        return rove::put_started(words, started);
+    if !record::is_ready(words) {
+        return record::put_unready(words);
     }
-    record::put_unready(words)
+    let given = record::read(words);
+    let tree = Tree {
+        pairs,
+        parents,
+        heights,
+        root: given.root,
+    };
+    let started = slide::slide_start_unvalidated(&tree, given.random, given.allowance);
+    rove::put_started(words, started)
 }
 
 // The second call of SubtreeSlide, with the node in word 6 and the step in word 7.
@@ -69,24 +68,21 @@ pub fn rove_subtree_slide_unvalidated(
 ) -> u64
     ensures { UnvalidatedExport (subtree_slide (node_in words.old) (tuning_in words.old)) pairs.old parents.old heights.old words.old (left (written result words.new) pairs.new parents.new heights.new) }
 {
-    if record::is_ready(words) {
-        let given = record::read(words);
-        let random = given.random;
-        let node = record::node(words);
-        let step = record::tuning(words);
-        let answered = slide::subtree_slide_unvalidated(
-            pairs,
-            parents,
-            heights,
-            given.root,
-            node,
-            step,
-            random,
-            given.allowance,
-        );
-        return record::put_answer(words, answered);
+    if !record::is_ready(words) {
+        return record::put_unready(words);
     }
-    record::put_unready(words)
+    let given = record::read(words);
+    let answered = slide::subtree_slide_unvalidated(
+        pairs,
+        parents,
+        heights,
+        given.root,
+        record::node(words),
+        record::tuning(words),
+        given.random,
+        given.allowance,
+    );
+    record::put_answer(words, answered)
 }
 
 pub fn rove_narrow_exchange_unvalidated(
@@ -97,20 +93,19 @@ pub fn rove_narrow_exchange_unvalidated(
 ) -> u64
     ensures { UnvalidatedExport narrow_exchange pairs.old parents.old heights.now words.old (left (written result words.new) pairs.new parents.new heights.now) }
 {
-    if record::is_ready(words) {
-        let given = record::read(words);
-        let random = given.random;
-        let answered = exchanges::narrow_exchange_unvalidated(
-            pairs,
-            parents,
-            heights,
-            given.root,
-            random,
-            given.allowance,
-        );
-        return record::put_answer(words, answered);
+    if !record::is_ready(words) {
+        return record::put_unready(words);
     }
-    record::put_unready(words)
+    let given = record::read(words);
+    let answered = exchanges::narrow_exchange_unvalidated(
+        pairs,
+        parents,
+        heights,
+        given.root,
+        given.random,
+        given.allowance,
+    );
+    record::put_answer(words, answered)
 }
 
 pub fn rove_wide_exchange_unvalidated(
@@ -121,20 +116,19 @@ pub fn rove_wide_exchange_unvalidated(
 ) -> u64
     ensures { UnvalidatedExport wide_exchange pairs.old parents.old heights.now words.old (left (written result words.new) pairs.new parents.new heights.now) }
 {
-    if record::is_ready(words) {
-        let given = record::read(words);
-        let random = given.random;
-        let answered = exchanges::wide_exchange_unvalidated(
-            pairs,
-            parents,
-            heights,
-            given.root,
-            random,
-            given.allowance,
-        );
-        return record::put_answer(words, answered);
+    if !record::is_ready(words) {
+        return record::put_unready(words);
     }
-    record::put_unready(words)
+    let given = record::read(words);
+    let answered = exchanges::wide_exchange_unvalidated(
+        pairs,
+        parents,
+        heights,
+        given.root,
+        given.random,
+        given.allowance,
+    );
+    record::put_answer(words, answered)
 }
 
 pub fn rove_wilson_balding_unvalidated(
@@ -145,20 +139,19 @@ pub fn rove_wilson_balding_unvalidated(
 ) -> u64
     ensures { UnvalidatedExport wilson_balding pairs.old parents.old heights.old words.old (left (written result words.new) pairs.new parents.new heights.new) }
 {
-    if record::is_ready(words) {
-        let given = record::read(words);
-        let random = given.random;
-        let answered = wilson::wilson_balding_unvalidated(
-            pairs,
-            parents,
-            heights,
-            given.root,
-            random,
-            given.allowance,
-        );
-        return record::put_answer(words, answered);
+    if !record::is_ready(words) {
+        return record::put_unready(words);
     }
-    record::put_unready(words)
+    let given = record::read(words);
+    let answered = wilson::wilson_balding_unvalidated(
+        pairs,
+        parents,
+        heights,
+        given.root,
+        given.random,
+        given.allowance,
+    );
+    record::put_answer(words, answered)
 }
 
 // With the tuning in word 7.
@@ -170,22 +163,20 @@ pub fn rove_root_scale_unvalidated(
 ) -> u64
     ensures { UnvalidatedExport (root_scale (tuning_in words.old)) pairs.now parents.now heights.old words.old (left (written result words.new) pairs.now parents.now heights.new) }
 {
-    if record::is_ready(words) {
-        let given = record::read(words);
-        let random = given.random;
-        let tuning = record::tuning(words);
-        let answered = heights::root_scale_unvalidated(
-            pairs,
-            parents,
-            heights,
-            given.root,
-            tuning,
-            random,
-            given.allowance,
-        );
-        return record::put_answer(words, answered);
+    if !record::is_ready(words) {
+        return record::put_unready(words);
     }
-    record::put_unready(words)
+    let given = record::read(words);
+    let answered = heights::root_scale_unvalidated(
+        pairs,
+        parents,
+        heights,
+        given.root,
+        record::tuning(words),
+        given.random,
+        given.allowance,
+    );
+    record::put_answer(words, answered)
 }
 
 // With the tuning in word 7.
@@ -197,23 +188,20 @@ pub fn rove_tree_scale_unvalidated(
 ) -> u64
     ensures { UnvalidatedExport (tree_scale (tuning_in words.old)) pairs.now parents.now heights.old words.old (left (written result words.new) pairs.now parents.now heights.new) }
 {
-    if record::is_ready(words) {
-        let given = record::read(words);
-        let random = given.random;
-        let tuning = record::tuning(words);
-        let answered = heights::tree_scale_answer(
-            pairs,
-            parents,
-            heights,
-            given.root,
-            tuning,
-            random,
-            given.allowance,
-        );
-        let answer = answered.answer;
-        let code = record::put_answer(words, answered);
-        heights::scale_by(heights, answer);
-        return code;
+    if !record::is_ready(words) {
+        return record::put_unready(words);
     }
-    record::put_unready(words)
+    let given = record::read(words);
+    let answered = heights::tree_scale_answer(
+        pairs,
+        parents,
+        heights,
+        given.root,
+        record::tuning(words),
+        given.random,
+        given.allowance,
+    );
+    let code = record::put_answer(words, answered);
+    heights::scale_by(heights, answered.answer);
+    code
 }

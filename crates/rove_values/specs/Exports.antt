@@ -1,38 +1,33 @@
 -- What each exported function leaves: the answer code that it returns, and the words of its record. Each is the definition of another crate, over what the
 -- record holds, with its value written into the record; where the words are no record, 3, and nothing is changed (`on_record`). Definitions only. Assumes
 -- nothing.
-use Rattle.std.specs.Prelude.{Bool, cond, List, [], ◌∷◌, ℕ, ltb, get_or, Float}
+use Rattle.std.specs.Prelude.{Bool, List, [], ◌∷◌, ℕ, slice_get, Float, Option, Some, None, Result, Ok, Err}
 use Rattle.std.specs.Float.{binary64}
 use Rattle.std.specs.Float.Ieee.{to_bits}
 use Rattle.answer.specs.declared.Refusal.TheVariants.{Parameter}
 use Rattle.random.specs.Generator.{drawn_uniform, drawn_coin}
-use Rattle.real.specs.declared.Optional.{Optional}
-use Rattle.real.specs.declared.Optional.TheVariants as Optionals
 use Rattle.calls.specs.Draws.{scaler}
 use Rattle.kinds.specs.declared.Move.{Move}
 use Rattle.kinds.specs.declared.Move.TheVariants as Moves
 use Rattle.kinds.specs.Table.{row_of}
 use Rattle.process.specs.Process.{estimates}
-use Rattle.nodes.specs.declared.Quantity.{Quantity}
-use Rattle.nodes.specs.declared.Quantity.TheVariants as Quantities
 use Rattle.nodes.specs.Nodes.{branch_length, tree_length}
 use Rattle.record.specs.Record.{real_in, generator_in, node_in, tuning_in, with_generator, Written, on_record, replied, given_reply, declined_reply}
 use Rattle.record_parameters.specs.Parameters.{priors_in}
 use Rattle.record_parameters.specs.Answers.{value_left, refusal_left, flag_word}
-use Rattle.rove_values.specs.declared.Named.{Named}
-use Rattle.rove_values.specs.declared.Named.TheVariants.{Is, Nothing}
+use Rattle.answer.specs.declared.Refusal.{Refusal}
 
 -- ---- the generator: one draw each
 
 unfoldable pub uniform_exported : List ℕ → Written
 uniform_exported words =
     let d = drawn_uniform (generator_in words) in
-    on_record words (replied (given_reply 1 (to_bits binary64 d.value) 0) (with_generator d.random words))
+    on_record words (replied (given_reply 1 (to_bits binary64 d.0) 0) (with_generator d.1 words))
 
 unfoldable pub coin_exported : List ℕ → Written
 coin_exported words =
     let d = drawn_coin (generator_in words) in
-    on_record words (replied (given_reply 1 (flag_word d.value) 0) (with_generator d.random words))
+    on_record words (replied (given_reply 1 (flag_word d.0) 0) (with_generator d.1 words))
 
 -- the tuning in word 7, and a uniform in word 13
 abbrev pub scaler_exported : List ℕ → Written
@@ -71,21 +66,21 @@ moves =
     ∷ []
 
 -- the move that word 6 names
-unfoldable pub move_in : List ℕ → Named
-move_in words = cond (ltb (node_in words) 25) (Is (get_or moves (node_in words) Moves.FbdBirthScale)) Nothing
+unfoldable pub move_in : List ℕ → Option Move
+move_in words = slice_get moves (node_in words)
 
 -- what is answered of a move, written as its kind is; a number that names none is a 5 with detail 0
-unfoldable pub named_left : {A : Type 0} → (A → List ℕ → Written) → (Move → A) → Named → List ℕ → Written
-named_left write answer (Is move) words = write (answer move) words
-named_left write answer Nothing words = refusal_left (Parameter 0) words
+unfoldable pub named_left : {A : Type 0} → (A → List ℕ → Written) → (Move → A) → Option Move → List ℕ → Written
+named_left write answer (Some move) words = write (answer move) words
+named_left write answer None words = refusal_left (Parameter 0) words
 
 abbrev pub flag_left : Bool → List ℕ → Written
 flag_left b words = value_left (flag_word b) words
 
 -- a move that has no tuning is code 1
-unfoldable pub tuning_left : Optional → List ℕ → Written
-tuning_left (Optionals.Given x) words = value_left (to_bits binary64 x) words
-tuning_left Optionals.Missing words = replied (declined_reply 0) words
+unfoldable pub tuning_left : Option Float → List ℕ → Written
+tuning_left (Some x) words = value_left (to_bits binary64 x) words
+tuning_left None words = replied (declined_reply 0) words
 
 abbrev pub initial_tuning_exported : List ℕ → Written
 initial_tuning_exported words = on_record words (named_left tuning_left (λ move. (row_of move).tuning) (move_in words) words)
@@ -105,9 +100,9 @@ estimates_exported words = on_record words (named_left flag_left (estimates (pri
 
 -- ---- lengths
 
-unfoldable pub quantity_left : Quantity → List ℕ → Written
-quantity_left (Quantities.Is x) words = value_left (to_bits binary64 x) words
-quantity_left (Quantities.Refused why) words = refusal_left why words
+unfoldable pub quantity_left : Result Float Refusal → List ℕ → Written
+quantity_left (Ok x) words = value_left (to_bits binary64 x) words
+quantity_left (Err why) words = refusal_left why words
 
 -- of the branch above the node in word 6
 abbrev pub branch_length_exported : List ℕ → List Float → List ℕ → Written

@@ -1,10 +1,8 @@
--- The ways through the uses of `scale`: ClockRateScale (`clock_rate_laws`) and the scales of speciation (`difference_laws`,
--- `rate_laws`, `death_laws`). Assumes nothing.
+-- The ways through the uses of `scale`: ClockRateScale (`clock_rate_laws`) and the scales of speciation. Assumes nothing.
 use mathlib.Core.Path.{◌≡◌, refl, sym, ap, ◌∙◌}
-use mathlib.Core.Bool.{Bool, true, false, not, ◌&&◌}
+use mathlib.Core.Bool.{Bool, true, false, ◌&&◌}
 use Prim.Native.Nat.{ℕ}
-use lib.Dec.{T}
-use lib.Ieee.{Float, binary64, nan_bits}
+use lib.Ieee.{Float}
 use lib.Ieee.Scale.{finite}
 use Rattle.answer.specs.declared.Refusal.TheVariants.{Parameter}
 use Rattle.answer.specs.declared.Proposal.{Proposal}
@@ -12,39 +10,33 @@ use Rattle.answer.specs.declared.Proposal.TheVariants as Proposals
 use Rattle.random.specs.declared.Random.{Random}
 use Rattle.random.specs.Draw.{Draw, allowed}
 use Rattle.real.specs.Real.{one, is_not_negative}
-use Rattle.real.specs.declared.Optional.{Optional}
-use Rattle.real.specs.declared.Optional.TheVariants.{Missing, Given}
 use Rattle.calls.specs.Change.{Change, proposed, value_call}
 use Rattle.calls.proofs.ChangeLaws.{put_in, value-part, value-limits}
 use Rattle.calls.specs.Draws.{tuned}
 use Rattle.speciation.specs.declared.Speciation.{Speciation}
 use Rattle.speciation.specs.declared.Speciation.TheVariants.{Yule, BirthDeath}
 use Rattle.scales.specs.declared.Scaled.{Scaled}
-use Rattle.scales.specs.declared.SpeciationScaled.{SpeciationScaled}
 use Rattle.scales.specs.Scales.{scale, scale_limits, scale_call, largest, clock_rate, clock_rate_limits, clock_rate_call, speciation_limits, birth_difference, birth_difference_call, birth_rate, birth_rate_call, relative_death, relative_death_call}
-use Rattle.scales.specs.Given.{undrawn_of, speciation_back}
+use Rattle.scales.specs.Given.{undrawn_of, turned_back}
 use Rattle.scales.specs.SettledLaws.{undrawn-call}
+use Rattle.std.specs.Prelude.{Option, Some, None}
 
 -- ---- ClockRateScale
 
-pub largest-read : T (not (nan_bits binary64 0x7fef_ffff_ffff_ffff))
-unfolding nan_bits
-largest-read = tt
-
-module _ (mean : Optional) (tuning : Float) (g : Random) (allowance : ℕ) where
-  pub clock-rate-missing : mean ≡ Missing → (a : Bool) → a ≡ tuned tuning → (b : Bool) → b ≡ (a && allowed allowance) → (p : Proposal) → p ≡ undrawn_of b
-      → proposed p g Missing ≡ clock_rate_call mean tuning g allowance
+module _ (mean : Option Float) (tuning : Float) (g : Random) (allowance : ℕ) where
+  pub clock-rate-missing : mean ≡ None → (a : Bool) → a ≡ tuned tuning → (b : Bool) → b ≡ (a && allowed allowance) → (p : Proposal) → p ≡ undrawn_of b
+      → proposed p g None ≡ clock_rate_call mean tuning g allowance
   unfolding clock_rate clock_rate_limits
   clock-rate-missing e a ea b eb p ep =
-      rw e (undrawn-call (tuned tuning) (clock_rate Missing tuning) Missing g allowance refl b (rw (eb, ea)) p ep)
+      rw e (undrawn-call (tuned tuning) (clock_rate None tuning) None g allowance refl b (rw (eb, ea)) p ep)
 
-  pub clock-rate-given : (x : Float) → mean ≡ Given x → (r : Scaled) → proposed r.proposal r.random r.value ≡ scale_call x largest tuning g allowance
-      → proposed r.proposal r.random (Given r.value) ≡ clock_rate_call mean tuning g allowance
+  pub clock-rate-given : (x : Float) → mean ≡ Some x → (r : Scaled Float) → proposed r.proposal r.random r.value ≡ scale_call x largest tuning g allowance
+      → proposed r.proposal r.random (Some r.value) ≡ clock_rate_call mean tuning g allowance
   unfolding clock_rate clock_rate_limits
   clock-rate-given x e r er =
-      rw e (ap (put_in Given) er ∙ sym (value-part Given (scale_limits x largest tuning) (scale x largest tuning) x g allowance))
+      rw e (ap (put_in Some) er ∙ sym (value-part Some (scale_limits x largest tuning) (scale x largest tuning) x g allowance))
 
-pub ruleset clock_rate_laws = (largest-read, clock-rate-missing, clock-rate-given)
+pub ruleset clock_rate_laws = (clock-rate-missing, clock-rate-given)
 
 -- ---- the scales of speciation
 
@@ -78,19 +70,19 @@ module _ (s : Speciation) (tuning : Float) (g : Random) (allowance : ℕ) where
       difference_yule b eb p ep =
           rw e (undrawn-call (tuned tuning && is_not_negative upper && finite rate) (birth_difference (Yule rate) upper tuning) (Yule rate) g allowance refl b eb p ep)
 
-      pub rate-yule : (r : Scaled) → proposed r.proposal r.random r.value ≡ scale_call rate upper tuning g allowance
+      pub rate-yule : (r : Scaled Float) → proposed r.proposal r.random r.value ≡ scale_call rate upper tuning g allowance
           → proposed r.proposal r.random (Yule r.value) ≡ birth_rate_call s upper tuning g allowance
       unfolding birth_rate speciation_limits scale_limits
       rate-yule r er =
           rw e (ap (put_in Yule) er ∙ sym (value-part Yule (scale_limits rate upper tuning) (scale rate upper tuning) rate g allowance))
 
     module _ (difference death : Float) (e : s ≡ BirthDeath difference death) (a : Bool) (ea : a ≡ finite death) where
-      pub difference-outside-limits : a ≡ false → (r : SpeciationScaled) → r ≡ speciation_back (BirthDeath difference death) g
-          → proposed r.proposal r.random r.speciation ≡ birth_difference_call s upper tuning g allowance
+      pub difference-outside-limits : a ≡ false → (r : Scaled Speciation) → r ≡ turned_back (Parameter 0) (BirthDeath difference death) g
+          → proposed r.proposal r.random r.value ≡ birth_difference_call s upper tuning g allowance
       difference-outside-limits h r er = rw er (death-outside difference death e upper (birth_difference s upper tuning) (rw (← ea, h)))
 
-      pub rate-outside-limits : a ≡ false → (r : SpeciationScaled) → r ≡ speciation_back (BirthDeath difference death) g
-          → proposed r.proposal r.random r.speciation ≡ birth_rate_call s upper tuning g allowance
+      pub rate-outside-limits : a ≡ false → (r : Scaled Speciation) → r ≡ turned_back (Parameter 0) (BirthDeath difference death) g
+          → proposed r.proposal r.random r.value ≡ birth_rate_call s upper tuning g allowance
       rate-outside-limits h r er = rw er (death-outside difference death e upper (birth_rate s upper tuning) (rw (← ea, h)))
 
       -- the limits are those of the scale of the difference
@@ -98,7 +90,7 @@ module _ (s : Speciation) (tuning : Float) (g : Random) (allowance : ℕ) where
       unfolding scale_limits
       within-limits h = rw (← ea, h) (and-true (tuned tuning && is_not_negative upper && finite difference))
 
-      pub difference-scaled : a ≡ true → (r : Scaled) → proposed r.proposal r.random r.value ≡ scale_call difference upper tuning g allowance
+      pub difference-scaled : a ≡ true → (r : Scaled Float) → proposed r.proposal r.random r.value ≡ scale_call difference upper tuning g allowance
           → proposed r.proposal r.random (BirthDeath r.value death) ≡ birth_difference_call s upper tuning g allowance
       unfolding birth_difference speciation_limits
       difference-scaled h r er =
@@ -120,11 +112,11 @@ module _ (s : Speciation) (tuning : Float) (g : Random) (allowance : ℕ) where
       rw e (undrawn-call (tuned tuning && is_not_negative one && finite rate) (relative_death (Yule rate) tuning) (Yule rate) g allowance refl b eb p ep)
 
   module _ (difference death : Float) (e : s ≡ BirthDeath difference death) (a : Bool) (ea : a ≡ finite difference) where
-    pub death-outside-limits : a ≡ false → (r : SpeciationScaled) → r ≡ speciation_back (BirthDeath difference death) g
-        → proposed r.proposal r.random r.speciation ≡ relative_death_call s tuning g allowance
+    pub death-outside-limits : a ≡ false → (r : Scaled Speciation) → r ≡ turned_back (Parameter 0) (BirthDeath difference death) g
+        → proposed r.proposal r.random r.value ≡ relative_death_call s tuning g allowance
     death-outside-limits h r er = rw er (difference-outside difference death e one (relative_death s tuning) (rw (← ea, h)))
 
-    pub death-scaled : a ≡ true → (r : Scaled) → proposed r.proposal r.random r.value ≡ scale_call death one tuning g allowance
+    pub death-scaled : a ≡ true → (r : Scaled Float) → proposed r.proposal r.random r.value ≡ scale_call death one tuning g allowance
         → proposed r.proposal r.random (BirthDeath difference r.value) ≡ relative_death_call s tuning g allowance
     unfolding relative_death speciation_limits scale_limits
     death-scaled h r er =
@@ -132,9 +124,3 @@ module _ (s : Speciation) (tuning : Float) (g : Random) (allowance : ℕ) where
         rw (← ea, h, and-true (tuned tuning && is_not_negative one)) in
         rw (e, limits)
         (ap (put_in (BirthDeath difference)) er ∙ sym (value-part (BirthDeath difference) (scale_limits death one tuning) (scale death one tuning) death g allowance))
-
-pub ruleset difference_laws = (difference_yule, difference-outside-limits, difference-scaled)
-
-pub ruleset rate_laws = (rate-yule, rate-outside-limits, rate-birth-death)
-
-pub ruleset death_laws = (death_yule, death-outside-limits, death-scaled)

@@ -7,23 +7,18 @@ use Rattle.answer.specs.declared.Proposal.{Proposal}
 use Rattle.answer.specs.declared.Proposal.TheVariants as Proposals
 use Rattle.random.specs.declared.Random.{Random}
 use Rattle.random.specs.declared.Supply.{Supply}
-use Rattle.speciation.specs.declared.Speciation.{Speciation}
 use Rattle.scales.specs.declared.Scaled.{Scaled}
-use Rattle.scales.specs.declared.SpeciationScaled.{SpeciationScaled}
 
 -- the answer of a call that declines without a draw, where it may go on
 abbrev pub undrawn_of : Bool → Proposal
 undrawn_of b = cond b (Proposals.Declined 0) (Proposals.Refused (Parameter 0))
 
--- the answer of a call that is turned back
-abbrev pub turned_back : Refusal → Float → Random → Scaled
+-- the answer of a call that is turned back, with what was given
+abbrev pub turned_back : {A : Type 0} → Refusal → A → Random → Scaled A
 turned_back why value g = record { proposal = Proposals.Refused why; value = value; random = g }
 
-abbrev pub speciation_back : Speciation → Random → SpeciationScaled
-speciation_back s g = record { proposal = Proposals.Refused (Parameter 0); speciation = s; random = g }
-
 -- after a factor f was drawn: the new value where it is admitted, else the old one; the draws are those allowed less those left
-abbrev pub settled : Bool → Float → Float → Float → ℕ → Supply → Scaled
+abbrev pub settled : Bool → Float → Float → Float → ℕ → Supply → Scaled Float
 settled admitted new old f allowance s =
     cond admitted (record { proposal = Proposals.Scaled (allowance - s.left) (Power f (negsuc 0)); value = new; random = s.random })
     (record { proposal = Proposals.Declined (allowance - s.left); value = old; random = s.random })

@@ -1,6 +1,6 @@
 -- Calls of the scales of parameters as rows of one statement on the definitions (`scale-rows`): what each scales, what it declines with a draw and
 -- without, and what turns it back. Of what each call leaves, all is said. Assumes nothing.
-use Rattle.std.specs.Prelude.{◌≡◌, refl, [], ◌∷◌, ℕ, negsuc, Float}
+use Rattle.std.specs.Prelude.{◌≡◌, refl, [], ◌∷◌, ℕ, negsuc, Float, Some, None}
 use Rattle.std.specs.Float.{nan, binary64}
 use Rattle.std.specs.Float.Ieee.{of_bits, lt, le, eq, add, sub, mul, div, round}
 use Rattle.words.specs.Words.{rotl}
@@ -12,7 +12,6 @@ use Rattle.random.specs.declared.Random.{Random}
 use Rattle.random.specs.Generator.{from_state, word_of, next, uniform_of}
 use Rattle.random.specs.Xoshiro.{output, step, stepped}
 use Rattle.random.specs.Draw.{run, pick, onward, word_from, uniform, ◌>>=◌}
-use Rattle.real.specs.declared.Optional.TheVariants.{Missing, Given}
 use Rattle.real.specs.Real as Real
 use Rattle.rules.specs.Samples.{0·0, −0·0, 0·5, 1·0, 2·0, 3·0, 5·0, example}
 use Rattle.calls.specs.Call.{ended}
@@ -136,14 +135,14 @@ pub record ScaleRows : Type 0 where
   pub draws_over : scale_call 3·0 5·0 0·5 start 65536 ≡ refuses 3·0 (Parameter 0) start
   pub zero_refused : scale_call 0·0 5·0 2·0 start 9 ≡ refuses 0·0 (Parameter 0) start
   -- ClockRateScale: its upper end is the greatest finite float; a missing mean is undrawn, within the limits
-  pub rate : clock_rate_call (Given 3·0) 0·5 start 9 ≡ scales_to (Given three_scaled) example 1 after_one
-  pub rate_greatest : clock_rate_call (Given greatest) 1·0 start 9 ≡ scales_to (Given greatest) 1·0 1 after_one
-  pub rate_infinite : clock_rate_call (Given greatest) 0·5 upper 9 ≡ declines (Given greatest) 1 upper_one
-  pub rate_zero : clock_rate_call (Given 0·0) 0·5 start 9 ≡ declines (Given 0·0) 0 start
-  pub rate_missing : clock_rate_call Missing 0·5 start 9 ≡ declines Missing 0 start
-  pub rate_missing_tuning : clock_rate_call Missing 2·0 start 9 ≡ refuses Missing (Parameter 0) start
-  pub rate_missing_no_draws : clock_rate_call Missing 0·5 start 0 ≡ refuses Missing (Parameter 0) start
-  pub rate_refused : clock_rate_call (Given Real.infinity) 0·5 start 9 ≡ refuses (Given Real.infinity) (Parameter 0) start
+  pub rate : clock_rate_call (Some 3·0) 0·5 start 9 ≡ scales_to (Some three_scaled) example 1 after_one
+  pub rate_greatest : clock_rate_call (Some greatest) 1·0 start 9 ≡ scales_to (Some greatest) 1·0 1 after_one
+  pub rate_infinite : clock_rate_call (Some greatest) 0·5 upper 9 ≡ declines (Some greatest) 1 upper_one
+  pub rate_zero : clock_rate_call (Some 0·0) 0·5 start 9 ≡ declines (Some 0·0) 0 start
+  pub rate_missing : clock_rate_call None 0·5 start 9 ≡ declines None 0 start
+  pub rate_missing_tuning : clock_rate_call None 2·0 start 9 ≡ refuses None (Parameter 0) start
+  pub rate_missing_no_draws : clock_rate_call None 0·5 start 0 ≡ refuses None (Parameter 0) start
+  pub rate_refused : clock_rate_call (Some Real.infinity) 0·5 start 9 ≡ refuses (Some Real.infinity) (Parameter 0) start
   -- BirthDifferenceScale: the first of two rates, the other kind undrawn; the limits of all that is given
   pub difference : birth_difference_call (BirthDeath 3·0 0·5) 5·0 0·5 start 9 ≡ scales_to (BirthDeath three_scaled 0·5) example 1 after_one
   pub difference_above : birth_difference_call (BirthDeath 2·0 0·5) 0·5 0·5 start 9 ≡ declines (BirthDeath 2·0 0·5) 1 after_one

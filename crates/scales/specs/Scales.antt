@@ -1,14 +1,12 @@
 -- The scales of parameters, along document 01's line "Scales, f being `scaler`": what each draws and makes, the limits of its parameters, and its call.
 -- Definitions only. Assumes nothing.
-use Rattle.std.specs.Prelude.{Bool, ◌&&◌, cond, ℕ, negsuc, Float}
+use Rattle.std.specs.Prelude.{Bool, ◌&&◌, cond, ℕ, negsuc, Float, Option, Some, None}
 use Rattle.std.specs.Float.{binary64}
 use Rattle.std.specs.Float.Ieee.{of_bits, eq, mul}
 use Rattle.std.specs.Float.Ieee.Scale.{finite}
 use Rattle.answer.specs.declared.Ratio.TheVariants.{Power}
 use Rattle.random.specs.declared.Random.{Random}
 use Rattle.random.specs.Draw.{Draw, return, ◌>>=◌, uniform}
-use Rattle.real.specs.declared.Optional.{Optional}
-use Rattle.real.specs.declared.Optional.TheVariants.{Missing, Given}
 use Rattle.real.specs.Real as Real
 use Rattle.real.specs.Real.{one, is_not_negative}
 use Rattle.rules.specs.Rules.{within}
@@ -44,15 +42,15 @@ scale_call value upper tuning g allowance = value_call (scale_limits value upper
 abbrev pub largest : Float
 largest = of_bits binary64 0x7fef_ffff_ffff_ffff
 
-unfoldable pub clock_rate : Optional → Float → Draw (Change Optional)
-clock_rate Missing tuning = return declined
-clock_rate (Given mean) tuning = on_part Given (scale mean largest tuning)
+unfoldable pub clock_rate : Option Float → Float → Draw (Change (Option Float))
+clock_rate None tuning = return declined
+clock_rate (Some mean) tuning = on_part Some (scale mean largest tuning)
 
-unfoldable pub clock_rate_limits : Optional → Float → Bool
-clock_rate_limits Missing tuning = tuned tuning
-clock_rate_limits (Given mean) tuning = scale_limits mean largest tuning
+unfoldable pub clock_rate_limits : Option Float → Float → Bool
+clock_rate_limits None tuning = tuned tuning
+clock_rate_limits (Some mean) tuning = scale_limits mean largest tuning
 
-abbrev pub clock_rate_call : Optional → Float → Random → ℕ → Proposed Optional
+abbrev pub clock_rate_call : Option Float → Float → Random → ℕ → Proposed (Option Float)
 clock_rate_call mean tuning g allowance = value_call (clock_rate_limits mean tuning) (clock_rate mean tuning) mean g allowance
 
 -- ---- the scales of speciation: "Yule holds one rate, BirthDeath holds two". Each declines the other kind undrawn

@@ -7,57 +7,33 @@ ghost use Rattle.std.specs.Prelude.{◌≡◌, ◌&&◌, ◌≤◌};
 ghost use Rattle.random.specs.Draw.{allowed};
 ghost use Rattle.calls.specs.Change.{proposed};
 ghost use Rattle.scales.specs.Scales.{scale_limits, scale_call, clock_rate_call, birth_difference_call, birth_rate_call, relative_death_call};
-ghost use Rattle.scales.specs.Given.{undrawn_of, turned_back, speciation_back, settled};
+ghost use Rattle.scales.specs.Given.{undrawn_of, turned_back, settled};
 
 use answer::{Proposal, Ratio, Refusal};
 use random::{Random, Supply};
-use real::Optional;
 use speciation::Speciation;
 
-const LARGEST: u64 = 0x7fef_ffff_ffff_ffff;
-
-// An answer, with the value and the generator after the call.
+// An answer, with what was given, scaled or as it came, and the generator after the call.
 #[derive(Clone, Copy)]
-pub struct Scaled {
+pub struct Scaled<T> {
     pub proposal: Proposal,
-    pub value: f64,
-    pub random: Random,
-}
-
-// Likewise with a value that may be missing.
-#[derive(Clone, Copy)]
-pub struct OptionalScaled {
-    pub proposal: Proposal,
-    pub value: Optional,
-    pub random: Random,
-}
-
-// Likewise with the speciation state.
-#[derive(Clone, Copy)]
-pub struct SpeciationScaled {
-    pub proposal: Proposal,
-    pub speciation: Speciation,
+    pub value: T,
     pub random: Random,
 }
 
 // Whether a scale may go on.
+#[tactic(auto, unfolding(crate::specs::Scales::scale_limits))]
 fn is_scalable(value: f64, upper: f64, tuning: f64, allowance: u32) -> bool
     ensures { result ≡ (scale_limits value upper tuning && allowed allowance) }
 {
-    if calls::is_tuned(tuning) {
-        if real::is_not_negative(upper) {
-            if real::is_finite(value) {
-                return random::is_allowed(allowance);
-            }
-            return false;
-        }
-        return false;
-    }
-    false
+    calls::is_tuned(tuning)
+        && real::is_not_negative(upper)
+        && real::is_finite(value)
+        && random::is_allowed(allowance)
 }
 
-// The answer of a call that is turned back: the value and the generator as they came.
-pub fn refuse(why: Refusal, value: f64, random: Random) -> Scaled
+// The answer of a call that is turned back: what was given and the generator as they came.
+pub fn refuse<T>(why: Refusal, value: T, random: Random) -> Scaled<T>
     ensures { result ≡ turned_back why value random }
 {
     Scaled {
@@ -68,59 +44,65 @@ pub fn refuse(why: Refusal, value: f64, random: Random) -> Scaled
 }
 
 // The answer after a factor was drawn: the new value where it is admitted.
-pub fn settle(admitted: bool, new: f64, old: f64, f: f64, allowance: u32, after: Supply) -> Scaled
+pub fn settle(
+    admitted: bool,
+    new: f64,
+    old: f64,
+    f: f64,
+    allowance: u32,
+    after: Supply,
+) -> Scaled<f64>
     requires { after.left ≤ allowance }
     ensures { result ≡ settled admitted new old f allowance after }
 {
     let draws = allowance - after.left;
-    let random = after.random;
     if admitted {
-        return Scaled {
+        Scaled {
             proposal: Proposal::Scaled(draws, Ratio::Power(f, -1)),
             value: new,
-            random,
-        };
-    }
-    Scaled {
-        proposal: Proposal::Declined(draws),
-        value: old,
-        random,
+            random: after.random,
+        }
+    } else {
+        Scaled {
+            proposal: Proposal::Declined(draws),
+            value: old,
+            random: after.random,
+        }
     }
 }
 
 // A value times a factor, from 0 to an upper end; nothing is drawn at 0.
-pub fn scale(value: f64, upper: f64, tuning: f64, random: Random, allowance: u32) -> Scaled
+#[tactic(auto, using(crate::proofs::ScaleLaws::scale_laws))]
+pub fn scale(value: f64, upper: f64, tuning: f64, random: Random, allowance: u32) -> Scaled<f64>
     ensures { proposed result.proposal result.random result.value ≡ scale_call value upper tuning random allowance }
 {
-    if is_scalable(value, upper, tuning, allowance) {
-        if value == 0.0 {
-            return Scaled {
-                proposal: Proposal::Declined(0),
-                value,
-                random,
-            };
-        }
-        let u = Supply {
-            random,
-            left: allowance,
-        }
-        .uniform();
-        let after = u.supply;
-        if u.ok {
-            let f = calls::scaler(tuning, u.value);
-            let x = value * f;
-            return settle(
-                calls::is_within(0.0, x, upper),
-                x,
-                value,
-                f,
-                allowance,
-                after,
-            );
-        }
-        return refuse(Refusal::Allowance(allowance), value, random);
+    if !is_scalable(value, upper, tuning, allowance) {
+        return refuse(Refusal::Parameter(0), value, random);
     }
-    refuse(Refusal::Parameter(0), value, random)
+    if value == 0.0 {
+        return Scaled {
+            proposal: Proposal::Declined(0),
+            value,
+            random,
+        };
+    }
+    let supply = Supply {
+        random,
+        left: allowance,
+    };
+    let Some((u, after)) = supply.uniform() else {
+        return refuse(Refusal::Allowance(allowance), value, random);
+    };
+    let f = calls::scaler(tuning, u);
+    let x = value * f;
+    settle(
+        calls::is_within(0.0, x, upper),
+        x,
+        value,
+        f,
+        allowance,
+        after,
+    )
 }
 
 // Whether a call may go on whose other limits hold or do not.
@@ -135,50 +117,36 @@ pub fn undrawn(fine: bool) -> Proposal
     ensures { result ≡ undrawn_of fine }
 {
     if fine {
-        return Proposal::Declined(0);
+        Proposal::Declined(0)
+    } else {
+        Proposal::Refused(Refusal::Parameter(0))
     }
-    Proposal::Refused(Refusal::Parameter(0))
 }
 
 // ClockRateScale, of the mean rate; without one nothing is drawn.
+#[tactic(auto, using(crate::proofs::UseLaws::clock_rate_laws))]
 pub fn clock_rate_scale(
-    mean: Optional,
+    mean: Option<f64>,
     tuning: f64,
     random: Random,
     allowance: u32,
-) -> OptionalScaled
+) -> Scaled<Option<f64>>
     ensures { proposed result.proposal result.random result.value ≡ clock_rate_call mean tuning random allowance }
 {
     match mean {
-        Optional::Missing => {
-            let fine = is_fine(calls::is_tuned(tuning), allowance);
-            return OptionalScaled {
-                proposal: undrawn(fine),
-                value: Optional::Missing,
-                random,
-            };
+        None => Scaled {
+            proposal: undrawn(is_fine(calls::is_tuned(tuning), allowance)),
+            value: mean,
+            random,
+        },
+        Some(x) => {
+            let scaled = scale(x, f64::MAX, tuning, random, allowance);
+            Scaled {
+                proposal: scaled.proposal,
+                value: Some(scaled.value),
+                random: scaled.random,
+            }
         }
-        Optional::Given(x) => {
-            let r = scale(x, f64::from_bits(LARGEST), tuning, random, allowance);
-            let proposal = r.proposal;
-            let after = r.random;
-            return OptionalScaled {
-                proposal,
-                value: Optional::Given(r.value),
-                random: after,
-            };
-        }
-    }
-}
-
-// The answer of a call on a speciation state that is turned back.
-fn refuse_speciation(speciation: Speciation, random: Random) -> SpeciationScaled
-    ensures { result ≡ speciation_back speciation random }
-{
-    SpeciationScaled {
-        proposal: Proposal::Refused(Refusal::Parameter(0)),
-        speciation,
-        random,
     }
 }
 
@@ -189,30 +157,25 @@ pub fn birth_difference_scale(
     tuning: f64,
     random: Random,
     allowance: u32,
-) -> SpeciationScaled
-    ensures { proposed result.proposal result.random result.speciation ≡ birth_difference_call speciation upper tuning random allowance }
+) -> Scaled<Speciation>
+    ensures { proposed result.proposal result.random result.value ≡ birth_difference_call speciation upper tuning random allowance }
 {
     match speciation {
-        Speciation::Yule(rate) => {
-            let fine = is_scalable(rate, upper, tuning, allowance);
-            return SpeciationScaled {
-                proposal: undrawn(fine),
-                speciation: Speciation::Yule(rate),
-                random,
-            };
-        }
+        Speciation::Yule(rate) => Scaled {
+            proposal: undrawn(is_scalable(rate, upper, tuning, allowance)),
+            value: speciation,
+            random,
+        },
         Speciation::BirthDeath(difference, death) => {
-            if real::is_finite(death) {
-                let r = scale(difference, upper, tuning, random, allowance);
-                let proposal = r.proposal;
-                let after = r.random;
-                return SpeciationScaled {
-                    proposal,
-                    speciation: Speciation::BirthDeath(r.value, death),
-                    random: after,
-                };
+            if !real::is_finite(death) {
+                return refuse(Refusal::Parameter(0), speciation, random);
             }
-            return refuse_speciation(Speciation::BirthDeath(difference, death), random);
+            let scaled = scale(difference, upper, tuning, random, allowance);
+            Scaled {
+                proposal: scaled.proposal,
+                value: Speciation::BirthDeath(scaled.value, death),
+                random: scaled.random,
+            }
         }
     }
 }
@@ -224,30 +187,27 @@ pub fn birth_rate_scale(
     tuning: f64,
     random: Random,
     allowance: u32,
-) -> SpeciationScaled
-    ensures { proposed result.proposal result.random result.speciation ≡ birth_rate_call speciation upper tuning random allowance }
+) -> Scaled<Speciation>
+    ensures { proposed result.proposal result.random result.value ≡ birth_rate_call speciation upper tuning random allowance }
 {
     match speciation {
         Speciation::Yule(rate) => {
-            let r = scale(rate, upper, tuning, random, allowance);
-            let proposal = r.proposal;
-            let after = r.random;
-            return SpeciationScaled {
-                proposal,
-                speciation: Speciation::Yule(r.value),
-                random: after,
-            };
+            let scaled = scale(rate, upper, tuning, random, allowance);
+            Scaled {
+                proposal: scaled.proposal,
+                value: Speciation::Yule(scaled.value),
+                random: scaled.random,
+            }
         }
         Speciation::BirthDeath(difference, death) => {
-            if real::is_finite(death) {
-                let fine = is_scalable(difference, upper, tuning, allowance);
-                return SpeciationScaled {
-                    proposal: undrawn(fine),
-                    speciation: Speciation::BirthDeath(difference, death),
-                    random,
-                };
+            if !real::is_finite(death) {
+                return refuse(Refusal::Parameter(0), speciation, random);
             }
-            return refuse_speciation(Speciation::BirthDeath(difference, death), random);
+            Scaled {
+                proposal: undrawn(is_scalable(difference, upper, tuning, allowance)),
+                value: speciation,
+                random,
+            }
         }
     }
 }
@@ -258,30 +218,25 @@ pub fn relative_death_scale(
     tuning: f64,
     random: Random,
     allowance: u32,
-) -> SpeciationScaled
-    ensures { proposed result.proposal result.random result.speciation ≡ relative_death_call speciation tuning random allowance }
+) -> Scaled<Speciation>
+    ensures { proposed result.proposal result.random result.value ≡ relative_death_call speciation tuning random allowance }
 {
     match speciation {
-        Speciation::Yule(rate) => {
-            let fine = is_scalable(rate, 1.0, tuning, allowance);
-            return SpeciationScaled {
-                proposal: undrawn(fine),
-                speciation: Speciation::Yule(rate),
-                random,
-            };
-        }
+        Speciation::Yule(rate) => Scaled {
+            proposal: undrawn(is_scalable(rate, 1.0, tuning, allowance)),
+            value: speciation,
+            random,
+        },
         Speciation::BirthDeath(difference, death) => {
-            if real::is_finite(difference) {
-                let r = scale(death, 1.0, tuning, random, allowance);
-                let proposal = r.proposal;
-                let after = r.random;
-                return SpeciationScaled {
-                    proposal,
-                    speciation: Speciation::BirthDeath(difference, r.value),
-                    random: after,
-                };
+            if !real::is_finite(difference) {
+                return refuse(Refusal::Parameter(0), speciation, random);
             }
-            return refuse_speciation(Speciation::BirthDeath(difference, death), random);
+            let scaled = scale(death, 1.0, tuning, random, allowance);
+            Scaled {
+                proposal: scaled.proposal,
+                value: Speciation::BirthDeath(difference, scaled.value),
+                random: scaled.random,
+            }
         }
     }
 }

@@ -1,10 +1,10 @@
--- The ways through the code of the second call: its limits (`limit_laws`), and the unvalidated call (`call_laws`). i is the node. Assumes nothing.
+-- The ways through the code of the unvalidated second call. i is the node. Assumes nothing.
 use mathlib.Core.Path.{◌≡◌, sym, ◌∙◌}
-use mathlib.Core.Bool.{Bool, false, not, ◌&&◌, and-eq-true_iff}
+use mathlib.Core.Bool.{Bool, not, ◌&&◌, and-eq-true_iff}
 use mathlib.Core.List.{List, []}
-use Prim.Native.Nat.{ℕ, ◌<◌, ◌≤◌}
+use Prim.Native.Nat.{ℕ, ◌<◌}
 use native.Mathlib.Omega.{arith}
-use borrow.Author.Tests.{eq-eqb, ne_eqb, lt-ltb, le-ltb, ltb-true}
+use borrow.Author.Tests.{ltb-true}
 use lib.Dec.{ltb, eqb}
 use lib.ListN.{length}
 use lib.Ieee.{Float}
@@ -13,8 +13,6 @@ use Rattle.answer.specs.declared.Refusal.{Refusal}
 use Rattle.answer.specs.declared.Refusal.TheVariants.{Parameter}
 use Rattle.random.specs.declared.Random.{Random}
 use Rattle.random.specs.Draw.{run, supply_of}
-use Rattle.tree.specs.declared.Verdict.{Verdict}
-use Rattle.tree.specs.declared.Verdict.TheVariants as Verdicts
 use Rattle.tree.specs.Tree.{Tree, nodes_of}
 use Rattle.tree.specs.Valid.{Valid}
 use Rattle.tree.specs.Given.{tree_of}
@@ -31,27 +29,11 @@ use Rattle.moves.specs.Programs.{slidable}
 use Rattle.moves.specs.Moves.{subtree_slide, UnvalidatedCall}
 use Rattle.calls.proofs.EntryLaws.{passed, accepted-checked, unvalidated-refused, unvalidated-done}
 use Rattle.slide.specs.Slide.{Slidable}
-
--- ---- the limits
-
-module _ (pairs : List ℕ) (root i : ℕ) (step : Float) where
-  pub limit-node : nodes_of pairs ≤ i → false ≡ slidable (tree_of pairs [] [] root) i step
-  limit-node h = rw (le-ltb i (nodes_of pairs) h)
-
-  module _ (h : i < nodes_of pairs) where
-    pub limit-root : i ≡ root → false ≡ slidable (tree_of pairs [] [] root) i step
-    limit-root e = rw (lt-ltb i (nodes_of pairs) h, eq-eqb i root e)
-
-    pub limit-step : (i ≡ root → ⊥) → (b : Bool) → b ≡ finite step → b ≡ slidable (tree_of pairs [] [] root) i step
-    limit-step d b e = rw (lt-ltb i (nodes_of pairs) h, ne_eqb i root d) e
-
-pub ruleset limit_laws = (limit-node, limit-root, limit-step)
-
--- ---- the unvalidated call
+use Rattle.std.specs.Prelude.{Result, Ok, Err}
 
 -- its limits were passed: limits is whether the parameters are within them, and v what was said of that
 module _ (pairs parents : List ℕ) (heights : List Float) (root i : ℕ) (step : Float) (limits : Bool) (el : limits ≡ slidable (tree_of pairs [] [] root) i step)
-    (allowance : ℕ) (v : Verdict) (ev : v ≡ limited limits allowance) (y : v ≡ Verdicts.Fine) (g : Random) where
+    (allowance : ℕ) (v : Result (Unit {0}) Refusal) (ev : v ≡ limited limits allowance) (y : v ≡ (Ok tt)) (g : Random) where
   abbrev t : Tree
   t = tree_of pairs parents heights root
 
@@ -61,7 +43,7 @@ module _ (pairs parents : List ℕ) (heights : List Float) (root i : ℕ) (step 
   call-large l why r er =
       record {
         decided = λ h. let z = (accepted-valid t h).sized in absurd (omega (arith, z.few, z.pairs));
-        harmless = rw er (back-harmless (slidable t i step) t g allowance why (λ f. let z : Verdicts.Fine ≡ Verdicts.Refused (Parameter 0) = sym y ∙ ev ∙ rw (el, f) in cc));
+        harmless = rw er (back-harmless (slidable t i step) t g allowance why (λ f. let z : (Ok tt) ≡ Err (Parameter 0) = sym y ∙ ev ∙ rw (el, f) in cc));
       }
 
   slides : Valid (nodes_of pairs) t → Slidable pairs parents heights root i

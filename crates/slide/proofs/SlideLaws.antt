@@ -11,10 +11,9 @@ use lib.Ieee.{Float, binary64, add, lt, nan}
 use lib.Ieee.Scale.{finite}
 use Rattle.answer.specs.declared.Ratio.TheVariants.{Even, Counts}
 use Rattle.random.specs.declared.Supply.{Supply}
-use Rattle.random.specs.declared.DrawnNumber.{DrawnNumber}
-use Rattle.random.specs.Draw.{below, pick, run, drawn_number}
+use Rattle.random.specs.Draw.{below, pick, run, drawn}
 use Rattle.random.proofs.DrawLaws.{below-yields}
-use Rattle.random.specs.SupplyLaws.{number-got, number-spent}
+use Rattle.random.specs.SupplyLaws.{drawn-got, drawn-spent}
 use Rattle.real.specs.OrderLaws.{lt→le}
 use Rattle.tree.specs.Tree.{Tree, nodes_of, other_in, parent, height, sibling}
 use Rattle.tree.specs.Valid.{Valid}
@@ -36,6 +35,7 @@ use Rattle.calls.specs.Harmless.{Turning, overflows}
 use Rattle.moves.specs.Programs.{subtree_slide, slide_at}
 use Rattle.grafts.specs.Given.{Regrafts}
 use Rattle.slide.specs.Slide.{Slidable, Goes, GoesUp, GoesDown, Lowers}
+use Rattle.std.specs.Prelude.{Some, None}
 use Rattle.slide.proofs.RunLaws.{runs_up, runs-above, runs-level, runs_none, runs-spent, runs-under, kept, lifted, lowered}
 
 -- a valid tree has nodes of 16 bits
@@ -172,44 +172,41 @@ module _ (pairs parents : List ℕ) (heights : List Float) (root i : ℕ) where
     unfolding turn_of
     under_none z = rw (runs_none t i x s g.goes.way g.over g.past (sym is-count ∙ z))
 
-    -- d is what was drawn
-    module _ (some : count ≡ 0 → ⊥) (d : DrawnNumber) (ed : d ≡ drawn_number s (pick (below count) s)) where
+    module _ (some : count ≡ 0 → ⊥) where
       some-listed : length list ≡ 0 → ⊥
       some-listed e = some (is-count ∙ e)
 
-      drawn : d ≡ drawn_number s (pick (below (length list)) s)
-      drawn = rw (← is-count) ed
-
-      pub under-spent : d.ok ≡ false → record { turned = Turns.Spent; supply = s; pairs = pairs; parents = parents; heights = heights } ≡ slid x s
+      pub under-spent : None ≡ drawn (pick (below count) s)
+          → record { turned = Turns.Spent; supply = s; pairs = pairs; parents = parents; heights = heights } ≡ slid x s
       unfolding turn_of
-      under-spent h = rw (runs-spent t i x s g.goes.way g.over g.past some-listed (number-spent s d _ drawn h))
+      under-spent e = rw (runs-spent t i x s g.goes.way g.over g.past some-listed (drawn-spent _ (rw (← is-count) e)))
 
-      -- j is the branch that was picked
-      module _ (h : d.ok ≡ true) (j : ℕ)
-          (ej : nodes_of pairs ≤ 65535 → k < nodes_of pairs → j ≡ picked (tree_of pairs [] heights 0) x k d.value) where
-        index : d.value < length (branches n t x k)
-        index = rw (g.beside, ← is-count) (below-yields count s d.value d.supply (number-got s d _ ed h))
+      -- m is what was drawn, u the supply after it, and j the branch that was picked
+      module _ (m : ℕ) (u : Supply) (em : Some (m, u) ≡ drawn (pick (below count) s)) (j : ℕ)
+          (ej : nodes_of pairs ≤ 65535 → k < nodes_of pairs → j ≡ picked (tree_of pairs [] heights 0) x k m) where
+        index : m < length (branches n t x k)
+        index = rw (g.beside, ← is-count) (below-yields count s m u (drawn-got _ m u em))
 
-        is-picked : j ≡ picked t x k d.value
-        is-picked = ej (few on.valid) sibling-node ∙ picked-bare t x k d.value
+        is-picked : j ≡ picked t x k m
+        is-picked = ej (few on.valid) sibling-node ∙ picked-bare t x k m
 
         branch : Branch n t x (sibling t i) j
-        branch = rw (← g.beside, is-picked) (picked-branch on.valid x sibling-node finite-x not-below d.value index)
+        branch = rw (← g.beside, is-picked) (picked-branch on.valid x sibling-node finite-x not-below m index)
 
         onto-branch : Regrafts pairs parents heights root i j
         onto-branch = record { valid = on.valid; node = on.node; under = on.under; to = branch.node }
 
-        goes_down : Ways.Slides n t i x d.value j
+        goes_down : Ways.Slides n t i x m j
         goes_down = Ways.down {j = j} g.goes.way g.over g.past (rw g.beside at index)
-            (rw (← g.beside) (sym (is-picked ∙ picked-is on.valid x sibling-node finite-x not-below d.value index)))
+            (rw (← g.beside) (sym (is-picked ∙ picked-is on.valid x sibling-node finite-x not-below m index)))
 
         pub under_goes : (pairs' parents' : List ℕ) (heights' : List Float) (r : ℕ)
             → (Regrafts pairs parents heights root i j → tree_of pairs' parents' heights' r ≡ regraft n t i j x)
-            → record { turned = Turns.Moved r (Counts count 1); supply = d.supply; pairs = pairs'; parents = parents'; heights = heights' } ≡ slid x s
+            → record { turned = Turns.Moved r (Counts count 1); supply = u; pairs = pairs'; parents = parents'; heights = heights' } ≡ slid x s
         under_goes pairs' parents' heights' r e =
-            (λ z. after_on (Turns.Moved (e onto-branch z).root (Counts (is-count z) 1)) d.supply (e onto-branch z))
-            ∙ sym (lowered on.valid (parent_node on) goes_down s d.supply (down-apart on.valid on.node on.under branch) g.goes.way)
-            ∙ sym (ap (turn_of t s) (runs-under t i x s g.goes.way g.over g.past some-listed d.value d.supply (number-got s d _ drawn h)))
+            (λ z. after_on (Turns.Moved (e onto-branch z).root (Counts (is-count z) 1)) u (e onto-branch z))
+            ∙ sym (lowered on.valid (parent_node on) goes_down s u (down-apart on.valid on.node on.under branch) g.goes.way)
+            ∙ sym (ap (turn_of t s) (runs-under t i x s g.goes.way g.over g.past some-listed m u (drawn-got _ m u (rw (← is-count) em))))
 
   -- ---- downwards
 

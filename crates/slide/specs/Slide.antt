@@ -6,7 +6,6 @@ use Rattle.tree.specs.Tree.{nodes_of, parent, height, sibling}
 use Rattle.tree.specs.Valid.{Valid}
 use Rattle.tree.specs.Given.{tree_of}
 use Rattle.rules.specs.Rules.{rises}
-use Rattle.moves.specs.Programs.{slides}
 
 -- the tree is valid, and i is one of its nodes that has a parent
 pub record Slidable (pairs parents : List ℕ) (heights : List Float) (root i : ℕ) : Type 0 where

@@ -13,16 +13,16 @@ ghost use Rattle.calls.specs.Call.{refused, called};
 ghost use Rattle.moves.specs.Moves.{start_call, unvalidated_start, move_call, UnvalidatedCall, subtree_slide};
 ghost use Rattle.calls.specs.Given.{after, turn_of};
 ghost use Rattle.calls.specs.Harmless.{Turning};
-ghost use Rattle.slide.specs.Started.{started_of, spent_start, drawn_start};
+ghost use Rattle.slide.specs.Started.{started_of, drawn_start};
 ghost use Rattle.slide.specs.Slide.{Slidable, GoesUp, GoesDown, Lowers};
 
 use answer::{Ratio, Refusal};
 use calls::{Answered, Turn, Turned};
 use random::{Random, Supply};
-use tree::Verdict;
+use tree::Tree;
 
 // The places of the largest tree's pairs. Branches are counted by a function that calls itself, on more places too deep for a stack.
-const MOST_PLACES: usize = 8190;
+const MOST_PLACES: usize = 2 * tree::MOST_NODES;
 
 // The node of a slide, the two uniforms of its step, and the draws made.
 #[derive(Clone, Copy)]
@@ -33,127 +33,59 @@ pub struct SlideNode {
     pub draws: u32,
 }
 
-// A node with its uniforms, or a refusal.
-#[derive(Clone, Copy)]
-pub enum Begun {
-    Node(SlideNode),
-    Refused(Refusal),
-}
-
 // The answer of the first call, and the generator after it; after a refusal, the generator as it came.
 #[derive(Clone, Copy)]
 pub struct Started {
-    pub answer: Begun,
+    pub answer: Result<SlideNode, Refusal>,
     pub random: Random,
 }
 
-// A node, two uniforms and the supply after them. Where more draws are needed than are left, `ok` is false and the supply is as it came.
-#[derive(Clone, Copy)]
-struct DrawnStart {
-    ok: bool,
-    node: usize,
-    first: f64,
-    second: f64,
-    supply: Supply,
-}
-
-// The draws of the first call.
-fn draw_start(pairs: &[u16], root: usize, s: Supply) -> DrawnStart
-    ensures { result ≡ drawn_start s (run (slide_start (tree_of pairs.now [] [] root)) s) }
+// The draws of the first call: a node other than the root, two uniforms, and the supply after them.
+#[tactic(auto, using(crate::proofs::StartLaws::draw_start_laws))]
+fn draw_start(pairs: &[u16], root: usize, s: Supply) -> Option<(usize, f64, f64, Supply)>
+    ensures { result ≡ drawn_start (run (slide_start (tree_of pairs.now [] [] root)) s) }
 {
-    let k = calls::non_root(s, pairs.len() / 2, root);
-    if k.ok {
-        let u = k.supply.uniform();
-        if u.ok {
-            let v = u.supply.uniform();
-            if v.ok {
-                let supply = v.supply;
-                return DrawnStart {
-                    ok: true,
-                    node: k.value,
-                    first: u.value,
-                    second: v.value,
-                    supply,
-                };
-            }
-            return spent(s);
-        }
-        return spent(s);
-    }
-    spent(s)
-}
-
-// The draws are spent.
-fn spent(s: Supply) -> DrawnStart
-    ensures { result ≡ spent_start s }
-{
-    DrawnStart {
-        ok: false,
-        node: 0,
-        first: 0.0,
-        second: 0.0,
-        supply: s,
-    }
+    let (node, s) = calls::non_root(s, pairs.len() / 2, root)?;
+    let (first, s) = s.uniform()?;
+    let (second, s) = s.uniform()?;
+    Some((node, first, second, s))
 }
 
 // The first call, the tree being left unvalidated: a node other than the root, and the two uniforms of its step.
-pub fn slide_start_unvalidated(
-    pairs: &[u16],
-    parents: &[u16],
-    heights: &[f64],
-    root: usize,
-    random: Random,
-    allowance: u32,
-) -> Started
-    ensures { result ≡ started_of random (unvalidated_start (tree_of pairs.now parents.now heights.now root) random allowance) }
+#[tactic(auto, using(crate::proofs::StartLaws::start_laws))]
+pub fn slide_start_unvalidated(tree: &Tree<'_>, random: Random, allowance: u32) -> Started
+    ensures { result ≡ started_of random (unvalidated_start tree.now random allowance) }
 {
-    match calls::check_limits(true, allowance) {
-        Verdict::Fine => {
-            let s = Supply {
-                random,
-                left: allowance,
-            };
-            let d = draw_start(pairs, root, s);
-            if d.ok {
-                let supply = d.supply;
-                let after = supply.random;
-                return Started {
-                    answer: Begun::Node(SlideNode {
-                        node: d.node,
-                        first: d.first,
-                        second: d.second,
-                        draws: allowance - supply.left,
-                    }),
-                    random: after,
-                };
-            }
-            return turn_back(Refusal::Allowance(allowance), random);
-        }
-        Verdict::Refused(why) => {
-            return turn_back(why, random);
-        }
+    if let Err(why) = calls::check_limits(true, allowance) {
+        return turn_back(why, random);
+    }
+    let s = Supply {
+        random,
+        left: allowance,
+    };
+    let Some((node, first, second, after)) = draw_start(tree.pairs, tree.root, s) else {
+        return turn_back(Refusal::Allowance(allowance), random);
+    };
+    Started {
+        answer: Ok(SlideNode {
+            node,
+            first,
+            second,
+            draws: allowance - after.left,
+        }),
+        random: after.random,
     }
 }
 
 // The first call: the tree is checked first.
-pub fn slide_start(
-    pairs: &[u16],
-    parents: &[u16],
-    heights: &[f64],
-    root: usize,
-    random: Random,
-    allowance: u32,
-) -> Started
-    ensures { result ≡ started_of random (start_call (tree_of pairs.now parents.now heights.now root) random allowance) }
+#[tactic(auto, using(crate::proofs::StartLaws::start_call_laws))]
+pub fn slide_start(tree: &Tree<'_>, random: Random, allowance: u32) -> Started
+    ensures { result ≡ started_of random (start_call tree.now random allowance) }
 {
-    match quick::validate(pairs, parents, heights, root) {
-        Verdict::Fine => {
-            return slide_start_unvalidated(pairs, parents, heights, root, random, allowance);
-        }
-        Verdict::Refused(why) => {
-            return turn_back(why, random);
-        }
+    if let Err(why) = quick::validate(tree) {
+        return turn_back(why, random);
     }
+    slide_start_unvalidated(tree, random, allowance)
 }
 
 // The answer of a first call that is turned back, with the generator as it came.
@@ -161,7 +93,7 @@ fn turn_back(why: Refusal, random: Random) -> Started
     ensures { result ≡ started_of random (refused why) }
 {
     Started {
-        answer: Begun::Refused(why),
+        answer: Err(why),
         random,
     }
 }
@@ -216,19 +148,17 @@ fn slide_under(
             supply: s,
         };
     }
-    let d = s.below(count);
-    if d.ok {
-        let supply = d.supply;
-        let child = branches::branch(pairs, heights, x, sibling, d.value);
-        let top = grafts::regraft(pairs, parents, heights, root, node, child, x);
+    let Some((index, supply)) = s.below(count) else {
         return Turn {
-            turned: Turned::Moved(top, Ratio::Counts(count, 1)),
-            supply,
+            turned: Turned::Spent,
+            supply: s,
         };
-    }
+    };
+    let child = branches::branch(pairs, heights, x, sibling, index);
+    let top = grafts::regraft(pairs, parents, heights, root, node, child, x);
     Turn {
-        turned: Turned::Spent,
-        supply: s,
+        turned: Turned::Moved(top, Ratio::Counts(count, 1)),
+        supply,
     }
 }
 
@@ -263,6 +193,7 @@ fn slide_down(
 }
 
 // The second call's turn: the node's parent slides by the step.
+#[tactic(auto, using(crate::proofs::SlideLaws::turn_laws))]
 fn subtree_slide_turn(
     pairs: &mut [u16],
     parents: &mut [u16],
@@ -277,33 +208,30 @@ fn subtree_slide_turn(
     let p = reads::parent(parents, node);
     let old = reads::height(heights, p);
     let x = old + step;
-    if real::is_finite(x) {
-        if old < x {
-            return slide_up(pairs, parents, heights, root, node, p, old, x, s);
-        }
-        return slide_down(pairs, parents, heights, root, node, p, x, s);
+    if !real::is_finite(x) {
+        return Turn {
+            turned: Turned::NotFinite(p),
+            supply: s,
+        };
     }
-    Turn {
-        turned: Turned::NotFinite(p),
-        supply: s,
+    if old < x {
+        slide_up(pairs, parents, heights, root, node, p, old, x, s)
+    } else {
+        slide_down(pairs, parents, heights, root, node, p, x, s)
     }
 }
 
 // Whether the node is one below n other than the root and the step is finite.
+#[tactic(auto, unfolding(moves::specs::Programs::slidable))]
 fn is_slidable(pairs: &[u16], root: usize, node: usize, step: f64) -> bool
     ensures { result ≡ slidable (tree_of pairs.now [] [] root) node step }
 {
-    if node < pairs.len() / 2 {
-        if node == root {
-            return false;
-        }
-        return real::is_finite(step);
-    }
-    false
+    node < pairs.len() / 2 && node != root && real::is_finite(step)
 }
 
 // The second call, the tree being left unvalidated: the node's parent slides by the step, and onto another branch where the step leads past the ends
 // of its own.
+#[tactic(auto, using(crate::proofs::CallLaws::call_laws))]
 pub fn subtree_slide_unvalidated(
     pairs: &mut [u16],
     parents: &mut [u16],
@@ -317,25 +245,22 @@ pub fn subtree_slide_unvalidated(
     ensures { UnvalidatedCall (subtree_slide node step) (tree_of pairs.old parents.old heights.old root) random allowance (called result.answer result.random pairs.new parents.new heights.new) }
 {
     let limits = is_slidable(pairs, root, node, step);
-    match calls::check_limits(limits, allowance) {
-        Verdict::Fine => {
-            if MOST_PLACES < pairs.len() {
-                return calls::refuse(Refusal::Size(pairs.len() / 2), random);
-            }
-            let s = Supply {
-                random,
-                left: allowance,
-            };
-            let turn = subtree_slide_turn(pairs, parents, heights, root, node, step, s);
-            return calls::answer(turn, random, allowance);
-        }
-        Verdict::Refused(why) => {
-            return calls::refuse(why, random);
-        }
+    if let Err(why) = calls::check_limits(limits, allowance) {
+        return calls::refuse(why, random);
     }
+    if MOST_PLACES < pairs.len() {
+        return calls::refuse(Refusal::Size(pairs.len() / 2), random);
+    }
+    let s = Supply {
+        random,
+        left: allowance,
+    };
+    let turn = subtree_slide_turn(pairs, parents, heights, root, node, step, s);
+    calls::answer(turn, random, allowance)
 }
 
 // The second call: the tree is checked first.
+#[tactic(auto, using(calls::proofs::EntryLaws::entry_laws))]
 pub fn subtree_slide(
     pairs: &mut [u16],
     parents: &mut [u16],
@@ -348,14 +273,14 @@ pub fn subtree_slide(
 ) -> Answered
     ensures { called result.answer result.random pairs.new parents.new heights.new ≡ move_call (subtree_slide node step) (tree_of pairs.old parents.old heights.old root) random allowance }
 {
-    match quick::validate(pairs, parents, heights, root) {
-        Verdict::Fine => {
-            return subtree_slide_unvalidated(
-                pairs, parents, heights, root, node, step, random, allowance,
-            );
-        }
-        Verdict::Refused(why) => {
-            return calls::refuse(why, random);
-        }
+    let tree = Tree {
+        pairs: &*pairs,
+        parents: &*parents,
+        heights: &*heights,
+        root,
+    };
+    if let Err(why) = quick::validate(&tree) {
+        return calls::refuse(why, random);
     }
+    subtree_slide_unvalidated(pairs, parents, heights, root, node, step, random, allowance)
 }

@@ -11,43 +11,42 @@ use borrow.Author.Tests.{lt-ltb, le-ltb}
 use Rattle.answer.specs.declared.Refusal.{Refusal}
 use Rattle.real.specs.Real as Real
 use Rattle.real.specs.Real.{positive}
-use Rattle.tree.specs.declared.Verdict.{Verdict}
-use Rattle.tree.specs.declared.Verdict.TheVariants as Verdicts
 use Rattle.tree.specs.Tree.{Tree, nodes_of, tips_of, height}
 use Rattle.tree.specs.New.{validated}
 use Rattle.tree.specs.Bounded.{every}
-use Rattle.tree.specs.BoundedLaws.{every-step, every-stop}
+use Rattle.tree.specs.BoundedLaws.{every_true, every-at}
 use Rattle.tree.specs.Valid.{Valid}
-use Rattle.tree.specs.Given.{tree_of, kin_in}
+use Rattle.tree.specs.Given.{kin_in}
 use Rattle.accepted.specs.ValidatedLaws.{fine-valid}
-use Rattle.speciation.specs.declared.Density.TheVariants as Densities
 use Rattle.speciation.specs.Yule.{present_at, vanishes, total_to, total, yule, yule_call}
+use Rattle.std.proofs.lemmas.List.{get_or-take, length-take-le}
+use Rattle.std.specs.Prelude.{Ok, Err, IsTrue, ◌↔◌, EachIndex, take}
+use Rattle.speciation.specs.declared.Density.TheVariants as Densities
 
 -- ---- whether all tips are at the present
 
+-- r is whether the height of each of the first m is zero
 module _ (hs : List Float) where
   abbrev here : ℕ → Bool
   here = present_at (kin_in [] hs)
 
-  -- no tip has been come to
-  pub present-start : every here 0 ≡ true
-  unfolding every
-  present-start = refl
+  abbrev front : List Float
+  front = take (length hs - length hs / 2) hs
 
-  -- those before k are
-  module _ (k : ℕ) (i : every here k ≡ true) where
-    pub present-step : eq (get_or hs k nan) Real.zero ≡ true → every here (k + 1) ≡ true
-    unfolding height
-    present-step h = every-step here k i h
+  front-length : length front ≡ tips_of (length hs)
+  front-length = let e : length hs - length hs / 2 ≡ tips_of (length hs) = omega arith in length-take-le (length hs - length hs / 2) hs (omega arith) ∙ e
 
-    pub present-stop : k < length hs - length hs / 2 → eq (get_or hs k nan) Real.zero ≡ false → false ≡ every here (tips_of (length hs))
-    unfolding height
-    present-stop l h = sym (every-stop here k i (tips_of (length hs)) (omega arith) h)
+  front-at : (i : ℕ) → i < tips_of (length hs) → get_or front i nan ≡ get_or hs i nan
+  front-at i l = get_or-take (length hs - length hs / 2) hs i nan (omega arith)
 
-    pub present-end : length hs - length hs / 2 ≤ k → k ≤ length hs - length hs / 2 → true ≡ every here (tips_of (length hs))
-    present-end l u = let z : k ≡ tips_of (length hs) = omega arith in rw (← z) (sym i)
-
-pub ruleset present_laws = (present-start, present-step, present-stop, present-end)
+  pub present-each : (r : Bool) → (IsTrue r ↔ EachIndex front (λ i. IsTrue (eq (get_or front i nan) Real.zero))) → r ≡ every here (tips_of (length hs))
+  unfolding height
+  present-each true h = sym (every_true here (tips_of (length hs)) (λ i l. rw (sym (front-at i l)) (h.0 refl i (rw front-length l))))
+  present-each false h = go (every here (tips_of (length hs))) refl
+    where
+      go : (b : Bool) → every here (tips_of (length hs)) ≡ b → false ≡ b
+      go true e = h.1 (λ i l. let m : i < tips_of (length hs) = rw (← front-length) l in rw (front-at i m) (every-at here (tips_of (length hs)) e i m))
+      go false e = refl
 
 -- ---- the internal heights
 
@@ -93,45 +92,42 @@ pub ruleset total_laws = (total-start, total-step, total-end)
 
 -- ---- the density
 
-module _ (pairs parents : List ℕ) (heights : List Float) (root : ℕ) (rate : Float) (v : Verdict) (e : v ≡ validated (tree_of pairs parents heights root)) where
-  abbrev t : Tree
-  t = tree_of pairs parents heights root
-
-  pub yule-refused : (why : Refusal) → v ≡ Verdicts.Refused why → Densities.Refused why ≡ yule_call t rate
+module _ (t : Tree) (rate : Float) where
+  pub yule-refused : (why : Refusal) → Err why ≡ validated t → Err why ≡ yule_call t rate
   unfolding yule_call
-  yule-refused why y = rw (← e, y)
+  yule-refused why e = rw (← e)
 
-  module _ (y : v ≡ Verdicts.Fine) where
-    valid : Valid (nodes_of pairs) t
-    valid = fine-valid t (sym e ∙ y)
+  module _ (e : Ok tt ≡ validated t) where
+    valid : Valid (nodes_of t.pairs) t
+    valid = fine-valid t (sym e)
 
-    long : length heights ≡ nodes_of pairs
+    long : length t.heights ≡ nodes_of t.pairs
     long = valid.sized.heights
 
-    pub root-inside : root < length heights
+    pub root-inside : t.root < length t.heights
     root-inside = rw long valid.root_node
 
     module _ (p : Bool) (ep : p ≡ positive rate) where
-      pub yule-rate : p ≡ false → Densities.MinusInfinity ≡ yule_call t rate
+      pub yule-rate : p ≡ false → Ok Densities.MinusInfinity ≡ yule_call t rate
       unfolding yule_call yule vanishes
-      yule-rate h = rw (← e, y, ← ep, h)
+      yule-rate h = rw (← e, ← ep, h)
 
-      module _ (h : p ≡ true) (b : Bool) (eb : b ≡ every (present_at (kin_in [] heights)) (tips_of (length heights))) where
+      module _ (h : p ≡ true) (b : Bool) (eb : b ≡ every (present_at (kin_in [] t.heights)) (tips_of (length t.heights))) where
         -- the tips of the tree are those of its heights
-        tips : b ≡ every (present_at t) (tips_of (nodes_of pairs))
+        tips : b ≡ every (present_at t) (tips_of (nodes_of t.pairs))
         unfolding height
         tips = rw (← long) eb
 
-        pub yule-tips : b ≡ false → Densities.MinusInfinity ≡ yule_call t rate
+        pub yule-tips : b ≡ false → Ok Densities.MinusInfinity ≡ yule_call t rate
         unfolding yule_call yule vanishes
-        yule-tips g = rw (← e, y, ← ep, h, ← tips, g)
+        yule-tips g = rw (← e, ← ep, h, ← tips, g)
 
-        pub yule-terms : b ≡ true → (sum : Float) → sum ≡ total_to (length heights) (kin_in [] heights) (length heights)
-            → Densities.Terms (length heights / 2) rate (mul binary64 rate (add binary64 sum (get_or heights root nan))) ≡ yule_call t rate
+        pub yule-terms : b ≡ true → (sum : Float) → sum ≡ total_to (length t.heights) (kin_in [] t.heights) (length t.heights)
+            → Ok (Densities.Terms (length t.heights / 2) rate (mul binary64 rate (add binary64 sum (get_or t.heights t.root nan)))) ≡ yule_call t rate
         unfolding yule_call yule vanishes total height
         yule-terms g sum es =
-            let o : nodes_of pairs % 2 ≡ 1 = valid.sized.odd in
-            let z : nodes_of pairs / 2 ≡ tips_of (nodes_of pairs) - 1 = omega arith in
-            rw (← e, y, ← ep, h, ← tips, g, total-whole (nodes_of pairs) t (nodes_of pairs), es, long, z)
+            let o : nodes_of t.pairs % 2 ≡ 1 = valid.sized.odd in
+            let z : nodes_of t.pairs / 2 ≡ tips_of (nodes_of t.pairs) - 1 = omega arith in
+            rw (← e, ← ep, h, ← tips, g, total-whole (nodes_of t.pairs) t (nodes_of t.pairs), es, long, z)
 
 pub ruleset yule_laws = (yule-refused, root-inside, yule-rate, yule-tips, yule-terms)

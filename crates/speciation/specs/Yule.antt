@@ -1,16 +1,15 @@
 -- The Yule density of a tree: its terms before the logarithm is taken, along `yule_log_density` of speciation.rs. Definitions only. Assumes nothing.
-use Rattle.std.specs.Prelude.{Bool, not, ◌||◌, cond, ℕ, zero, suc, ◌-◌, Float}
+use Rattle.std.specs.Prelude.{Bool, not, ◌||◌, cond, ℕ, zero, suc, ◌-◌, Float, Result, Ok, Err}
 use Rattle.std.specs.Float.{binary64}
 use Rattle.std.specs.Float.Ieee.{eq, add, mul}
 use Rattle.real.specs.Real as Real
 use Rattle.real.specs.Real.{positive}
-use Rattle.tree.specs.declared.Verdict.{Verdict}
-use Rattle.tree.specs.declared.Verdict.TheVariants as Verdicts
 use Rattle.tree.specs.Tree.{Tree, nodes_of, tips_of, inner, height}
 use Rattle.tree.specs.New.{validated}
 use Rattle.tree.specs.Bounded.{every}
-use Rattle.speciation.specs.declared.Density.{Density}
+use Rattle.answer.specs.declared.Refusal.{Refusal}
 use Rattle.speciation.specs.declared.Density.TheVariants as Densities
+use Rattle.speciation.specs.declared.Density.{Density}
 
 -- tip k is at the present; −0.0 is zero
 abbrev pub present_at : Tree → ℕ → Bool
@@ -30,13 +29,13 @@ unfoldable pub total : Tree → Float
 total t = let n = nodes_of t.pairs in add binary64 (total_to n t n) (height t t.root)
 
 -- "else (tips − 1), the rate, and rate times total"
-unfoldable pub yule : Tree → Float → Density
-yule t rate = cond (vanishes t rate) Densities.MinusInfinity (Densities.Terms (tips_of (nodes_of t.pairs) - 1) rate (mul binary64 rate (total t)))
+unfoldable pub yule : Tree → Float → Result Density Refusal
+yule t rate = cond (vanishes t rate) (Ok Densities.MinusInfinity) (Ok (Densities.Terms (tips_of (nodes_of t.pairs) - 1) rate (mul binary64 rate (total t))))
 
-abbrev pub or_refused : Verdict → Density → Density
-or_refused Verdicts.Fine d = d
-or_refused (Verdicts.Refused why) d = Densities.Refused why
+abbrev pub or_refused : Result (Unit {0}) Refusal → Result Density Refusal → Result Density Refusal
+or_refused (Ok tt) d = d
+or_refused (Err why) d = Err why
 
 -- "any f64 for Yule": only the tree can be refused
-unfoldable pub yule_call : Tree → Float → Density
+unfoldable pub yule_call : Tree → Float → Result Density Refusal
 yule_call t rate = or_refused (validated t) (yule t rate)

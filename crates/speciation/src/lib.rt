@@ -4,11 +4,11 @@
 ghost use Rattle.std.specs.Prelude.{◌≡◌, [], length};
 ghost use Rattle.tree.specs.Tree.{tips_of};
 ghost use Rattle.tree.specs.Bounded.{every};
-ghost use Rattle.tree.specs.Given.{tree_of, kin_in};
+ghost use Rattle.tree.specs.Given.{kin_in};
 ghost use Rattle.speciation.specs.Yule.{present_at, total_to, yule_call};
 
 use answer::Refusal;
-use tree::Verdict;
+use tree::Tree;
 
 // The live parameters: Yule's birth rate; or of a birth–death process the difference of birth and death rates, and the relative death rate.
 #[derive(Clone, Copy)]
@@ -23,60 +23,38 @@ pub enum Speciation {
 pub enum Density {
     MinusInfinity,
     Terms(usize, f64, f64),
-    Refused(Refusal),
 }
 
 // Whether all tips of a tree with these heights are at the present.
 fn are_present(heights: &[f64]) -> bool
     ensures { result ≡ every (present_at (kin_in [] heights.now)) (tips_of (length heights.now)) }
 {
-    let mut k = 0;
-    while k < heights.len() - heights.len() / 2 {
-        if heights[k] == 0.0 {
-            k += 1;
-        } else {
-            return false;
-        }
-    }
-    true
+    let tips = heights.len() - heights.len() / 2;
+    heights[..tips].iter().all(|height| *height == 0.0)
 }
 
 // The internal heights, added in their order.
+#[tactic(auto, using(crate::proofs::YuleLaws::total_laws))]
 fn internal_total(heights: &[f64]) -> f64
     ensures { result ≡ total_to (length heights.now) (kin_in [] heights.now) (length heights.now) }
 {
     let mut sum = 0.0;
-    let mut k = heights.len() / 2 + 1;
-    while k < heights.len() {
-        sum = sum + heights[k];
-        k += 1;
+    for k in heights.len() / 2 + 1..heights.len() {
+        sum += heights[k];
     }
     sum
 }
 
 // The Yule density of a tree at a birth rate.
-pub fn yule_log_density(
-    pairs: &[u16],
-    parents: &[u16],
-    heights: &[f64],
-    root: usize,
-    rate: f64,
-) -> Density
-    ensures { result ≡ yule_call (tree_of pairs.now parents.now heights.now root) rate }
+#[tactic(auto, using(crate::proofs::YuleLaws::yule_laws))]
+pub fn yule_log_density(tree: &Tree<'_>, rate: f64) -> Result<Density, Refusal>
+    ensures { result ≡ yule_call tree.now rate }
 {
-    match quick::validate(pairs, parents, heights, root) {
-        Verdict::Refused(why) => {
-            return Density::Refused(why);
-        }
-        Verdict::Fine => {
-            if real::is_positive(rate) {
-                if are_present(heights) {
-                    let total = internal_total(heights) + heights[root];
-                    return Density::Terms(heights.len() / 2, rate, rate * total);
-                }
-                return Density::MinusInfinity;
-            }
-            return Density::MinusInfinity;
-        }
+    quick::validate(tree)?;
+    let heights = tree.heights;
+    if !(real::is_positive(rate) && are_present(heights)) {
+        return Ok(Density::MinusInfinity);
     }
+    let total = internal_total(heights) + heights[tree.root];
+    Ok(Density::Terms(heights.len() / 2, rate, rate * total))
 }

@@ -2,29 +2,33 @@
 -- end, for any form of line; then for pairs and for heights. Assumes nothing.
 use mathlib.Core.Path.{◌≡◌, refl, sym, ap, ◌∙◌, subst}
 use mathlib.Core.List.{List, [], ◌∷◌, ◌++◌, append_assoc, append-nil, map}
-use Prim.Native.Nat.{ℕ, suc, ◌+◌, ◌-◌, ◌*◌, ◌≤◌, ◌<◌}
+use Prim.Native.Nat.{ℕ, suc, ◌+◌, ◌-◌, ◌*◌, ◌≤◌, ◌<◌, min}
 use native.Mathlib.Nat.{add-zero, sub-zero, mul-zero}
 use native.Mathlib.Numerals.{add-one}
 use native.Mathlib.Omega.{arith}
-use lib.ListN.{length, set, take, drop, replicate, length-set, length-append, length-map, length-replicate, replicate-append-replicate, take-append-drop}
+use lib.ListN.{length, length-drop, set, take, drop, replicate, length-set, length-append, length-map, length-replicate, take-append-drop}
 use lib.Seq.{drop-cons, drop-drop, take_at, drop_at, set_at, set_out, length-take-le}
 use lib.Ieee.{Float, binary64, of_bits}
 use Rattle.text.specs.Rules.{Rule, malformed, parsed}
 use Rattle.text.specs.Places.{numbered}
-use Rattle.text.specs.declared.Number.{Number}
-use Rattle.text.specs.declared.Number.TheVariants.{Value, Malformed}
 use Rattle.tree.specs.Tree.{no_node}
 use Rattle.forms.specs.Forms.{pair_line, height_line}
 use Rattle.forms.specs.Given.{paired}
-use Rattle.forms.specs.declared.Pair.{Pair}
-use Rattle.forms.specs.declared.Pair.TheVariants as Pairs
 use Rattle.statefile.specs.Lines.{wrong, found, each}
 use Rattle.statefile.specs.StateFile.{slots, with_tips, real, nodes_for}
 use Rattle.statefile.specs.SlotLaws.{slots-long}
 use Rattle.statefile.specs.EachLaws.{after, after_none, after-after, each_none, each-wrong, each_more}
 use Rattle.statefile.specs.Given.{Stored, pairs_stored, heights_stored, Marked, planted}
-use Rattle.statefile.specs.declared.LinesRead.{LinesRead}
-use Rattle.statefile.specs.declared.LinesRead.TheVariants.{Upto, Wrong}
+use Rattle.std.specs.Prelude.{Option, Some, None, Result, Ok, Err}
+use Rattle.std.specs.Option.{ok_or}
+use Rattle.statefile.specs.Given.{wrong_line}
+use Rattle.statefile.specs.declared.WrongLine.{WrongLine}
+
+-- ---- a line that is not of its form
+
+pub missed : {A : Type 0} (o : Option A) (w e : WrongLine) → Err e ≡ ok_or o w → o ≡ None → e ≡ w
+missed None w e q n = cc
+missed (Some a) w e q n = cc
 
 -- ---- a slice
 
@@ -129,14 +133,14 @@ module _ (count first at : ℕ) (s : List ℕ) (from : ℕ) (out₀ : List ℕ) 
   pairs-none = none_yet slots 2 pairs-put pair_line count first (drop at s) s from out₀ at refl
 
   module _ (k j : ℕ) (out : List ℕ) (f : PairsFilling count first at s from out₀ k j out) where
-    pub pairs_end : count ≤ k → pairs_stored count first at s from out₀ (Upto j) out
+    pub pairs_end : count ≤ k → pairs_stored count first at s from out₀ (Ok j) out
     pairs_end h = all slots 2 pairs-put pair_line count first (drop at s) s from out₀ k j out f h
 
-    module _ (h : k < count) (r : Pair) (e : paired s r ≡ pair_line (drop j s)) where
-      pub pairs-wrong : r ≡ Pairs.Malformed → pairs_stored count first at s from out₀ (Wrong (first + k)) out
+    module _ (h : k < count) (r : Option (ℕ × ℕ × ℕ)) (e : paired s r ≡ pair_line (drop j s)) where
+      pub pairs-wrong : r ≡ None → pairs_stored count first at s from out₀ (Err (wrong_line (first + k))) out
       pairs-wrong m = stops slots 2 pairs-put pair_line count first (drop at s) s from out₀ k j out f h (sym (ap (paired s) m) ∙ e)
 
-      pub pairs_next : (a b i : ℕ) (p : List ℕ) → r ≡ Pairs.Children a b i → p ≡ set (set out (from + k + k) a) (from + k + k + 1) b → PairsFilling count first at s from out₀ (k + 1) i p
+      pub pairs_next : (a b i : ℕ) (p : List ℕ) → r ≡ Some (a, b, i) → p ≡ set (set out (from + k + k) a) (from + k + k + 1) b → PairsFilling count first at s from out₀ (k + 1) i p
       pairs_next a b i p m ep = one_more slots 2 pairs-put pair_line count first (drop at s) s from out₀ k j out f h (a, b) i p (sym (ap (paired s) m) ∙ e) same held
         where
           same : length p ≡ length out
@@ -176,14 +180,14 @@ module _ (count first at : ℕ) (s : List ℕ) (out₀ : List Float) where
   heights-none = none_yet (map real) 1 heights-put height_line count first (drop at s) s 0 out₀ at refl
 
   module _ (k j : ℕ) (out : List Float) (f : HeightsFilling count first at s out₀ k j out) where
-    pub heights-end : count ≤ k → heights_stored count first at s out₀ (Upto j) out
+    pub heights-end : count ≤ k → heights_stored count first at s out₀ (Ok j) out
     heights-end h = all (map real) 1 heights-put height_line count first (drop at s) s 0 out₀ k j out f h
 
-    module _ (h : k < count) (r : Number) (e : numbered s r ≡ height_line (drop j s)) where
-      pub heights-wrong : r ≡ Malformed → heights_stored count first at s out₀ (Wrong (first + k)) out
+    module _ (h : k < count) (r : Option (ℕ × ℕ)) (e : numbered s r ≡ height_line (drop j s)) where
+      pub heights-wrong : r ≡ None → heights_stored count first at s out₀ (Err (wrong_line (first + k))) out
       heights-wrong m = stops (map real) 1 heights-put height_line count first (drop at s) s 0 out₀ k j out f h (sym (ap (numbered s) m) ∙ e)
 
-      pub heights-next : (w i : ℕ) (x : Float) (o : List Float) → r ≡ Value w i → x ≡ of_bits binary64 w → o ≡ set out k x → HeightsFilling count first at s out₀ (k + 1) i o
+      pub heights-next : (w i : ℕ) (x : Float) (o : List Float) → r ≡ Some (w, i) → x ≡ of_bits binary64 w → o ≡ set out k x → HeightsFilling count first at s out₀ (k + 1) i o
       heights-next w i x o m ex eo = one_more (map real) 1 heights-put height_line count first (drop at s) s 0 out₀ k j out f h w i o (sym (ap (numbered s) m) ∙ e) same held
         where
           same : length o ≡ length out
@@ -202,37 +206,24 @@ pub ruleset heights_laws = (heights-none, heights-end, heights-wrong, heights-ne
 
 -- ---- marks, and then pairs
 
--- i marks are made
-pub record Marking (count : ℕ) (out₀ : List ℕ) (i : ℕ) (out : List ℕ) : Type 0 where
-  pub few : i ≤ count
-  pub same : length out ≡ length out₀
-  pub is : out ≡ replicate i no_node ++ drop i out₀
+pub marks-made : (count : ℕ) (out₀ : List ℕ) (m : ℕ) → m ≡ min count (length out₀) → (part : List ℕ) → part ≡ replicate (length (take m out₀)) no_node
+    → Marked count out₀ (part ++ drop m out₀)
+marks-made count out₀ m e part f =
+    let t : length (take m out₀) ≡ m = length-take-le m out₀ (omega arith) in
+    let p : length part ≡ m = ap length f ∙ length-replicate {A = ℕ} (length (take m out₀)) no_node ∙ t in
+    record {
+      same = length-append part (drop m out₀) ∙ (λ i. p i + length-drop m out₀ i) ∙ omega arith;
+      held = λ h.
+          let q : m ≡ count = omega arith in
+          (λ i. f i ++ drop m out₀) ∙ (λ i. replicate ((t ∙ q) i) no_node ++ drop (q i) out₀);
+    }
 
-pub mark-none : (count : ℕ) (out₀ : List ℕ) → Marking count out₀ 0 out₀
-mark-none count out₀ = record { few = omega arith; same = refl; is = refl }
-
-module _ (count : ℕ) (out₀ : List ℕ) (i : ℕ) (out : List ℕ) (m : Marking count out₀ i out) where
-  pub mark-room : i < count → length out ≤ i → Marked count out₀ out
-  mark-room h l = record { same = m.same; held = λ r. absurd (omega (arith, m.same)) }
-
-  pub mark-end : count ≤ i → Marked count out₀ out
-  mark-end h = let q : i ≡ count = omega (arith, m.few) in record { same = m.same; held = λ r. rw q at m.is }
-
-  pub mark-more : i < count → i < length out → Marking count out₀ (i + 1) (set out i no_node)
-  mark-more h l =
-      let r : i < length out₀ = omega (arith, m.same) in
-      record {
-        few = omega arith;
-        same = length-set out i no_node ∙ m.same;
-        is = ap (λ (x : List ℕ). set x i no_node) m.is ∙ store-next (replicate i no_node) out₀ i no_node (length-replicate {A = ℕ} i no_node) r ∙ ap (λ (x : List ℕ). x ++ drop (i + 1) out₀) (replicate-append-replicate i 1 no_node);
-      }
-
-pub ruleset mark_laws = (mark-none, mark-room, mark-end, mark-more)
+pub ruleset mark_laws = (marks-made)
 
 module _ (tips at : ℕ) (s out₀ out₁ out : List ℕ) (from count : ℕ) (m : Marked from out₀ out₁) (twice : from ≡ 2 * tips) (c : count ≡ tips - 1) where
-  pub plants : (r : LinesRead) → pairs_stored count 8 at s from out₁ r out → planted tips at s out₀ r out
-  plants (Wrong n) e = subst (λ (x : ℕ). each x pair_line 8 (drop at s) ≡ wrong n) c e
-  plants (Upto i) p = record {
+  pub plants : (r : Result ℕ WrongLine) → pairs_stored count 8 at s from out₁ r out → planted tips at s out₀ r out
+  plants (Err w) e = subst (λ (x : ℕ). each x pair_line 8 (drop at s) ≡ wrong w.0) c e
+  plants (Ok i) p = record {
     values = p.values;
     are = subst (λ (x : ℕ). each x pair_line 8 (drop at s) ≡ found p.values (8 + x) (drop i s)) c p.are;
     long = p.long ∙ c;

@@ -1,8 +1,8 @@
 -- So many lines of one form: how those read so far stand before the others (`after`), and what each line more, or the first that is wrong, makes of
 -- them. Assumes nothing.
-use Rattle.std.specs.Prelude.{◌≡◌, List, [], ◌∷◌, ◌++◌, ℕ, zero, suc}
+use Rattle.std.specs.Prelude.{◌≡◌, List, [], ◌∷◌, ◌++◌, ℕ, suc}
 use Rattle.std.proofs.Math.Path.{refl}
-use Rattle.std.proofs.Common.{sym, ap, ◌∙◌, append_assoc}
+use Rattle.std.proofs.Common.{sym, ap, append_assoc}
 use Rattle.text.specs.Rules.{Rule, malformed, parsed}
 use Rattle.statefile.specs.Lines.{Found, wrong, found, return, onward, ◌>>=◌, line, each}
 

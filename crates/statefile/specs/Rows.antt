@@ -9,7 +9,7 @@ use Rattle.text.specs.Text.{bytes, line_end}
 use Rattle.text.specs.Rules as Rules
 use Rattle.forms.specs.Forms as Forms
 use Rattle.statefile.specs.Lines as Lines
-use Rattle.statefile.specs.StateFile.{State, Reading, faulty, read, real, slots, supplied, asked, head, tree, state, state_file}
+use Rattle.statefile.specs.StateFile.{State, faulty, read, real, slots, supplied, asked, head, tree, state, state_file}
 
 -- ---- files
 

@@ -1,5 +1,5 @@
 -- The laws that the proofs of statefile_text share.
 mod PutLaws
 mod RoomLaws
-mod ReadBackLaws
-mod WritableLaws
+pub mod ReadBackLaws
+pub mod WritableLaws

@@ -66,30 +66,6 @@ pub ruleset taken_laws = (node-taken, node-untaken, bits-taken, bits-untaken)
 
 -- ---- the lines
 
-module _ (w v : Written) (k : Kind) where
-  pub name-node-height : k ≡ NodeHeight → v ≡ write w (bytes "NodeHeight") → v ≡ write w (name_of k)
-  name-node-height e h = rw e h
-
-  pub name-slide : k ≡ SubtreeSlide → v ≡ write w (bytes "SubtreeSlide") → v ≡ write w (name_of k)
-  name-slide e h = rw e h
-
-  pub name-narrow : k ≡ NarrowExchange → v ≡ write w (bytes "NarrowExchange") → v ≡ write w (name_of k)
-  name-narrow e h = rw e h
-
-  pub name-wide : k ≡ WideExchange → v ≡ write w (bytes "WideExchange") → v ≡ write w (name_of k)
-  name-wide e h = rw e h
-
-  pub name-wilson : k ≡ WilsonBalding → v ≡ write w (bytes "WilsonBalding") → v ≡ write w (name_of k)
-  name-wilson e h = rw e h
-
-  pub name-root : k ≡ RootScale → v ≡ write w (bytes "RootScale") → v ≡ write w (name_of k)
-  name-root e h = rw e h
-
-  pub name-tree : k ≡ TreeScale → v ≡ write w (bytes "TreeScale") → v ≡ write w (name_of k)
-  name-tree e h = rw e h
-
-pub ruleset name_laws = (name-node-height, name-slide, name-narrow, name-wide, name-wilson, name-root, name-tree)
-
 module _ (w a b v : Written) where
   pub supplied-put : (draws : ℕ) (words : Words) → a ≡ write w (bytes "edition=1\n") → b ≡ write a (line (bytes "draws=") (decimal_text draws))
       → v ≡ write b (line (bytes "state=") (state_text (words_of words))) → v ≡ write w (supplied_text draws (words_of words))

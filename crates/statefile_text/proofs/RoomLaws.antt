@@ -1,7 +1,7 @@
 -- The ways through the code that says what room a text leaves, and hands the text over where it fits. Assumes nothing.
 use mathlib.Core.Path.{◌≡◌, refl, ap, ◌∙◌}
 use mathlib.Core.List.{List}
-use Prim.Native.Nat.{ℕ, suc, ◌+◌, ◌-◌, ◌*◌, ◌/◌, ◌≤◌, ◌<◌}
+use Prim.Native.Nat.{ℕ, suc, ◌+◌, ◌-◌, ◌*◌, ◌/◌, ◌^◌, ◌≤◌, ◌<◌, min}
 use native.Mathlib.Omega.{arith}
 use lib.ListN.{length, get_or, length-append}
 use lib.Ieee.{Float}
@@ -52,14 +52,9 @@ pub ruleset head_laws = (draws-fit, name-fits, node-fits, tips-fit, head-len)
 
 -- ---- the heights
 
-module _ (room : ℕ) (heights : List Float) where
-  pub heights-over : room / 24 < length heights → 0 ≡ room - length (heights_text heights)
-  heights-over h = let l = length-heights heights in omega arith
-
-  pub heights-left : length heights ≤ room / 24 → room - 24 * length heights ≡ room - length (heights_text heights)
-  heights-left h = rw (length-heights heights)
-
-pub ruleset heights_laws = (heights-over, heights-left)
+pub heights-left : (room : ℕ) (heights : List Float) → room < 2 ^ 64 → (m r : ℕ) → m ≡ min (length heights * 24) (2 ^ 64 - 1) → r ≡ room - m
+    → r ≡ room - length (heights_text heights)
+heights-left room heights f m r em er = let l = length-heights heights in omega arith
 
 -- ---- the pairs, of which those before node k are taken off
 

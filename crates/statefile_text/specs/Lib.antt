@@ -1,5 +1,5 @@
--- StateText has the text of a state and which states a file can hold. ReadBackLaws and WritableLaws have the theorems on the two, from the laws of reading in
--- ReadingLaws; LengthLaws say how long the parts are; Rows are some texts.
+-- StateText has the text of a state and which states a file can hold; LengthLaws say how long the parts are; Rows are some texts. ReadBackLaws and WritableLaws
+-- of proofs/ have the theorems on texts and states, from the laws of reading in ReadingLaws.
 pub mod StateText
 pub mod LengthLaws
 pub mod ReadingLaws

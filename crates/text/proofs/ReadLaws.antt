@@ -1,29 +1,31 @@
--- The ways through the readers: a fixed text (`literal_laws`), a table of digits (`table_laws`), a word (`word_laws`), a decimal number
+-- The ways through the readers: a byte (`byte_laws`), a fixed text, a table of digits (`table_laws`), a word (`word_laws`), a decimal number
 -- (`decimal_laws`). In a loop, what its rule says of the text from its place on is what was asked (`whole`). Assumes nothing.
-use mathlib.Core.Path.{◌≡◌, refl, sym, ap, ◌∙◌}
-use mathlib.Core.Bool.{Bool, true, false, cond}
+use mathlib.Core.Path.{◌≡◌, refl, sym, ap, subst, ◌∙◌}
+use mathlib.Core.Bool.{Bool, true, false, cond, ◌&&◌}
 use mathlib.Core.List.{List, [], ◌∷◌}
 use Prim.Native.Nat.{ℕ, zero, suc, ◌+◌, ◌-◌, ◌*◌, ◌^◌, ◌≤◌, ◌<◌}
 use native.Mathlib.Numerals.{add-one}
 use native.Mathlib.Decide.{dec_lt, ℕ_discrete}
 use native.Mathlib.Omega.{arith}
-use native.Mathlib.Nat.{add-zero, add_assoc, not-suc-le-zero, pow-le-pow_right}
-use lib.Dec.{ltb, leb, lit<}
+use native.Mathlib.Nat.{not-suc-le-zero, pow-le-pow_right}
+use lib.Dec.{ltb, lit<}
 use lib.Pow.{pow-add}
-use lib.ListN.{length, drop, get_or, set, replicate, drop_of_length-le, length-set, length-drop, length-replicate, get_or-replicate}
-use lib.Seq.{drop-cons, get_or-set_same, get_or-set_other}
+use lib.ListN.{length, length-take, take, drop, get_or, set, replicate, drop_of_length-le, length-set, length-drop, length-replicate, get_or-replicate}
+use lib.Seq.{drop-cons, take_all, drop-drop, get_or-take, get_or-set_same, get_or-set_other}
 use mir.Val.{Fits}
-use mir.Facts.{Fits-widen}
-use mir.Syntax.{w8, w64}
+use mir.Syntax.{w64}
 use borrow.Author.Rules.{Fits-under}
 use borrow.Author.Tests.{eq-eqb, ne_eqb, le-leb, lt-leb, lt-ltb, le-ltb}
 use Rattle.text.specs.Text.{digit}
 use Rattle.text.specs.Rules.{Parsed, malformed, parsed, literal, is_decimal, value_of, hex_after, word, decimal_after, decimal}
 use Rattle.text.specs.Places.{placed, numbered, DigitValues}
 use Rattle.text.specs.DigitLaws.{decimal-within, value-decimal, digit_low, digit-high, value-digit, digit_value, value-le}
-use Rattle.text.specs.declared.Place.TheVariants.{At, Missing}
-use Rattle.text.specs.declared.Number.{Number}
-use Rattle.text.specs.declared.Number.TheVariants.{Value, Malformed}
+use lib.Dec.{eqb}
+use denote.Ref.{Bor}
+use mathlib.Core.Logic.{◌⊎◌, inl, inr}
+use Rattle.std.specs.Option.{MatchOption, unwrap_or}
+use Rattle.std.specs.List.{slice_range, starts_with}
+use Rattle.std.specs.Prelude.{Option, Some, None}
 
 -- the text from a place on, opened
 next : (s : List ℕ) (i : ℕ) → i < length s → drop i s ≡ get_or s i 0 ∷ drop (i + 1) s
@@ -32,36 +34,52 @@ next s i h = rw add-one (drop-cons s i 0 h)
 -- ---- a fixed text
 
 module _ (s : List ℕ) (at b : ℕ) where
-  pub byte-there : at < length s → get_or s at 0 ≡ b → placed s (At (at + 1)) ≡ literal (b ∷ []) (drop at s)
+  pub byte-there : (x : ℕ) → at < length s → ((d : ℕ) → x ≡ get_or s at d) → x ≡ b → placed s (Some (at + 1)) ≡ literal (b ∷ []) (drop at s)
   unfolding literal
-  byte-there h e = rw (next s at h, eq-eqb (get_or s at 0) b e)
+  byte-there x h g e = rw (next s at h, eq-eqb (get_or s at 0) b (sym (g 0) ∙ e))
 
-  pub byte-other : at < length s → (get_or s at 0 ≡ b → ⊥) → placed s Missing ≡ literal (b ∷ []) (drop at s)
+  pub byte-other : (x : ℕ) → at < length s → ((d : ℕ) → x ≡ get_or s at d) → (x ≡ b → ⊥) → placed s None ≡ literal (b ∷ []) (drop at s)
   unfolding literal
-  byte-other h e = rw (next s at h, ne_eqb (get_or s at 0) b e)
+  byte-other x h g e = rw (next s at h, ne_eqb (get_or s at 0) b (λ q. e (g 0 ∙ q)))
 
-  pub byte_past : length s ≤ at → placed s Missing ≡ literal (b ∷ []) (drop at s)
+  pub byte_past : (r : Option ℕ) → length s ≤ at → r ≡ None → placed s r ≡ literal (b ∷ []) (drop at s)
   unfolding literal
-  byte_past h = rw (drop_of_length-le s h)
+  byte_past r h e = rw (e, drop_of_length-le s h)
 
-module _ (key s : List ℕ) (i j : ℕ) (whole : Parsed Unit) (e : literal (drop i key) (drop j s) ≡ whole) where
-  pub literal-end : length key ≤ i → placed s (At j) ≡ whole
-  unfolding literal
-  literal-end h = rw (drop_of_length-le key h) at e
+pub ruleset byte_laws = (byte-there, byte-other, byte_past)
 
-  pub literal-past : i < length key → length s ≤ j → placed s Missing ≡ whole
-  unfolding literal
-  literal-past h k = rw (next key i h, drop_of_length-le s k) at e
+-- what is left of a text from a place on
+from : (s : List ℕ) (at : ℕ) → slice_range s at (length s) ≡ drop at s
+from s at = let h : length (drop at s) ≤ length s - at = rw length-drop (omega arith) in take_all (length s - at) (drop at s) h
 
-  pub literal-other : i < length key → j < length s → (get_or s j 0 ≡ get_or key i 0 → ⊥) → placed s Missing ≡ whole
-  unfolding literal
-  literal-other h k d = rw (next key i h, next s j k, ne_eqb (get_or s j 0) (get_or key i 0) d) at e
+pub from_there : (s : List ℕ) (at : ℕ) (o : Option (Bor (List ℕ))) (d x : Bor (List ℕ))
+    → MatchOption o ((length s < at) ⊎ (length s < length s)) (λ x. (at ≤ length s) × (length s ≤ length s) × (x.now ≡ slice_range s at (length s)) × (length x.now + at ≡ length s))
+    → d.now ≡ [] → x ≡ unwrap_or o d → x.now ≡ drop at s
+from_there s at None d x m e r = ap (λ (y : Bor (List ℕ)). y.now) r ∙ e ∙ sym (elim m [ inl h ↦ drop_of_length-le s (omega arith) | inr h ↦ absurd (omega arith) ])
+from_there s at (Some y) d x m e r = ap (λ (y : Bor (List ℕ)). y.now) r ∙ m.2 ∙ from s at
 
-  pub literal-more : i < length key → j < length s → get_or s j 0 ≡ get_or key i 0 → literal (drop (i + 1) key) (drop (j + 1) s) ≡ whole
-  unfolding literal
-  literal-more h k d = rw (next key i h, next s j k, eq-eqb (get_or s j 0) (get_or key i 0) d) at e
+eqb_sym : (a b : ℕ) → eqb a b ≡ eqb b a
+eqb_sym a b = elim (ℕ_discrete a b) [
+  | yes e ↦ rw (eq-eqb a b e, eq-eqb b a (sym e))
+  | no n ↦ rw (ne_eqb a b n, ne_eqb b a (λ q. n (sym q)))
+]
 
-pub ruleset literal_laws = (byte-there, byte-other, byte_past, literal-end, literal-past, literal-other, literal-more)
+literal-starts : (key t : List ℕ) → literal key t ≡ cond (starts_with eqb t key) (parsed tt (drop (length key) t)) malformed
+unfolding literal
+literal-starts [] t = refl
+literal-starts (k ∷ ks) [] = refl
+literal-starts (k ∷ ks) (b ∷ t) = rw (eqb_sym b k) (go (eqb k b) (starts_with eqb t ks) (parsed tt (drop (length ks) t)) (literal-starts ks t))
+  where
+    go : (e r : Bool) (q : Parsed Unit) {p : Parsed Unit} → p ≡ cond r q malformed → cond e p malformed ≡ cond (e && r) q malformed
+    go true r q h = h
+    go false r q h = refl
+
+module _ (s key : List ℕ) (at : ℕ) (x : List ℕ) (b : Bool) (e : x ≡ drop at s) (h : b ≡ starts_with eqb x key) where
+  pub literal-there : b ≡ true → placed s (Some (at + length key)) ≡ literal key (drop at s)
+  literal-there t = rw (literal-starts key (drop at s), ← e, ← h, t, e, drop-drop) refl
+
+  pub literal-other : b ≡ false → placed s None ≡ literal key (drop at s)
+  literal-other t = rw (literal-starts key (drop at s), ← e, ← h, t)
 
 -- ---- the table of digits
 
@@ -141,81 +159,86 @@ hex-few (suc k) n (b ∷ s) h = either (ltb (value_of b) 16) (hex-few k (n * 16 
     either true e = e
     either false e = refl
 
-pub word-past : (s : List ℕ) (at : ℕ) → length s < at → numbered s Malformed ≡ word (drop at s)
-word-past s at h = sym (hex-few 16 0 (drop at s) (rw length-drop (omega arith)))
+pub word-past : (s : List ℕ) (at : ℕ) (r : Option (ℕ × ℕ)) → length s < at → r ≡ None → numbered s r ≡ word (drop at s)
+word-past s at r h e = rw e (sym (hex-few 16 0 (drop at s) (rw length-drop (omega arith))))
 
-pub word-few : (s : List ℕ) (at : ℕ) → length s - at < 16 → numbered s Malformed ≡ word (drop at s)
-word-few s at h = sym (hex-few 16 0 (drop at s) (rw length-drop h))
+pub word-few : (s x : List ℕ) (at : ℕ) (r : Option (ℕ × ℕ)) → x ≡ slice_range s at (length s) → length x < 16 → r ≡ None → numbered s r ≡ word (drop at s)
+word-few s x at r q h e = let l : length (drop at s) < 16 = subst (λ (y : List ℕ). length y < 16) (q ∙ from s at) h in rw e (sym (hex-few 16 0 (drop at s) l))
 
--- k digits are read, and make n
-pub record Hexing (s : List ℕ) (at k n : ℕ) : Type 0 where
+-- of the text t the first 16 bytes are passed, of which k make n
+pub record Hexing (t digits : List ℕ) (k n : ℕ) : Type 0 where
+  pub is : digits ≡ take 16 t
+  pub long : 16 ≤ length t
   pub few : k ≤ 16
   pub small : n < 16 ^ k
-  pub rest : hex_after (16 - k) n (drop (at + k) s) ≡ word (drop at s)
+  pub rest : hex_after (16 - k) n (drop k t) ≡ word t
 
-pub hex-none : (s : List ℕ) (at : ℕ) → Hexing s at 0 0
-hex-none s at = record { few = omega arith; small = lit< tt; rest = rw add-zero }
+pub hex-none : (s x digits : List ℕ) (at : ℕ) → x ≡ slice_range s at (length s) → digits ≡ slice_range x 0 16 → 16 ≤ length x → Hexing (drop at s) digits 0 0
+hex-none s x digits at q e h =
+    let p = q ∙ from s at in
+    record { is = e ∙ ap (take 16) p; long = subst (λ (y : List ℕ). 16 ≤ length y) p h; few = omega arith; small = lit< tt; rest = refl }
 
 hex-room : (k n d : ℕ) → n < 16 ^ k → d < 16 → n * 16 + d < 16 ^ (k + 1)
 hex-room k n d a b = let e : 16 ^ (k + 1) ≡ 16 ^ k * 16 = pow-add 16 k 1 in omega (arith, e)
 
-module _ (s : List ℕ) (at k n : ℕ) (x : Hexing s at k n) where
-  pub hex-end : 16 ≤ k → numbered s (Value n (at + 16)) ≡ word (drop at s)
+pub hex-long : (t digits : List ℕ) (k n : ℕ) → Hexing t digits k n → length digits ≡ 16
+hex-long t digits k n x = ap length x.is ∙ length-take 16 t ∙ omega (arith, x.long)
+
+pub hex-end : (s digits : List ℕ) (at k n : ℕ) → Hexing (drop at s) digits k n → length digits ≤ k → numbered s (Some (n, (at + 16))) ≡ word (drop at s)
+unfolding hex_after
+hex-end s digits at k n x h =
+    let l = hex-long (drop at s) digits k n x in
+    let e : k ≡ 16 = omega (arith, x.few) in
+    rw (← drop-drop) (rw e at x.rest)
+
+module _ (t digits : List ℕ) (k n d : ℕ) (x : Hexing t digits k n) (h : k < length digits) (e : d ≡ value_of (get_or digits k 0)) where
+  few : k < 16
+  few = let l = hex-long t digits k n x in omega arith
+
+  here : drop k t ≡ get_or t k 0 ∷ drop (k + 1) t
+  here = next t k (let l = few in omega (arith, x.long))
+
+  value-here : value_of (get_or t k 0) ≡ d
+  value-here = let l = few in ap value_of (sym (get_or-take 16 t k 0 l) ∙ ap (λ (y : List ℕ). get_or y k 0) (sym x.is)) ∙ sym e
+
+  left : 16 - k ≡ suc (16 - (k + 1))
+  left = let l = few in omega arith
+
+  pub hex-other : (s : List ℕ) → 16 ≤ d → numbered s None ≡ word t
   unfolding hex_after
-  hex-end h =
-      let e : k ≡ 16 = omega (arith, x.few) in
-      rw e at x.rest
+  hex-other s g = rw (left, here, value-here, le-ltb d 16 g) at x.rest
 
-  module _ (d : ℕ) (a : at ≤ length s) (r : 16 ≤ length s - at) (h : k < 16) (e : d ≡ value_of (get_or s (at + k) 0)) where
-    here : drop (at + k) s ≡ get_or s (at + k) 0 ∷ drop (at + (k + 1)) s
-    here = next s (at + k) (omega arith) ∙ rw add_assoc
+  pub hex-more : d < 16 → Hexing t digits (k + 1) (n * 16 + d)
+  unfolding hex_after
+  hex-more g = let l = few in record { is = x.is; long = x.long; few = omega arith; small = hex-room k n d x.small g; rest = rw (left, here, value-here, lt-ltb d 16 g) at x.rest }
 
-    left : 16 - k ≡ suc (16 - (k + 1))
-    left = omega arith
+  pub hex-fits : d < 16 → Fits w64 (n * 16 + d)
+  hex-fits g =
+      let l = few in
+      let a = hex-room k n d x.small g in
+      let m : k + 1 ≤ 16 = omega arith in
+      let b : 16 ^ (k + 1) ≤ 16 ^ 16 = pow-le-pow_right (lit< tt) m in
+      Fits-under w64 (n * 16 + d) (16 ^ 16) (omega arith) tt
 
-    pub hex-other : 16 ≤ d → numbered s Malformed ≡ word (drop at s)
-    unfolding hex_after
-    hex-other g = rw (left, here, ← e, le-ltb d 16 g) at x.rest
-
-    pub hex-more : d < 16 → Hexing s at (k + 1) (n * 16 + d)
-    unfolding hex_after
-    hex-more g = record { few = omega arith; small = hex-room k n d x.small g; rest = rw (left, here, ← e, lt-ltb d 16 g) at x.rest }
-
-pub hex-fits : (s : List ℕ) (at k n d : ℕ) → Hexing s at k n → k < 16 → d < 16 → Fits w64 (n * 16 + d)
-hex-fits s at k n d x h g =
-    let a = hex-room k n d x.small g in
-    let m : k + 1 ≤ 16 = omega arith in
-    let b : 16 ^ (k + 1) ≤ 16 ^ 16 = pow-le-pow_right (lit< tt) m in
-    Fits-under w64 (n * 16 + d) (16 ^ 16) (omega arith) tt
-
-pub hex-fits-less : (s : List ℕ) (at k n d : ℕ) → Hexing s at k n → k < 16 → d < 16 → Fits w64 (n * 16)
-hex-fits-less s at k n d x h g = let a = hex-fits s at k n d x h g in record { fits = omega (arith, a.fits) }
+  pub hex-fits-less : d < 16 → Fits w64 (n * 16)
+  hex-fits-less g = let a = hex-fits g in record { fits = omega (arith, a.fits) }
 
 pub ruleset word_laws = (word-past, word-few, hex-none, hex-end, hex-other, hex-more, hex-fits, hex-fits-less)
 
 -- ---- a decimal number
-
-pub decimal-high : (b : ℕ) → 48 ≤ b → leb b 57 ≡ is_decimal b
-decimal-high b h = rw (le-leb 48 b h)
-
-pub decimal-low : (b : ℕ) → b < 48 → leb 48 b ≡ is_decimal b
-decimal-low b h = rw (lt-leb 48 b h)
 
 -- the digits before the place i make n
 pub record Counting (limit : ℕ) (s : List ℕ) (i n : ℕ) (whole : Parsed ℕ) : Type 0 where
   pub small : n ≤ limit
   pub rest : decimal_after limit n (drop i s) ≡ whole
 
-pub count_none : (limit : ℕ) (s : List ℕ) (i : ℕ) → Counting limit s i 0 (decimal_after limit 0 (drop i s))
-count_none limit s i = record { small = omega arith; rest = refl }
-
 module _ (limit : ℕ) (s : List ℕ) (i n : ℕ) (whole : Parsed ℕ) (x : Counting limit s i n whole) where
-  pub count-end : length s ≤ i → numbered s (Value n i) ≡ whole
+  pub count-end : length s ≤ i → i ≤ length s → numbered s (Some (n, length s)) ≡ whole
   unfolding decimal_after
-  count-end h = rw (drop_of_length-le s h) (rw (drop_of_length-le s h) at x.rest)
+  count-end h k = let z : length s ≤ length s = omega arith in rw (drop_of_length-le s z) (rw (drop_of_length-le s h) at x.rest)
 
   module _ (t : Bool) (h : i < length s) (e : t ≡ is_decimal (get_or s i 0)) where
-    pub count-stop : t ≡ false → numbered s (Value n i) ≡ whole
+    pub count-stop : t ≡ false → numbered s (Some (n, i)) ≡ whole
     unfolding decimal_after
     count-stop f = rw (next s i h) (simp (next s i h, sym e ∙ f) at x.rest)
 
@@ -225,7 +248,7 @@ module _ (limit : ℕ) (s : List ℕ) (i n : ℕ) (whole : Parsed ℕ) (x : Coun
     value : t ≡ true → value_of (get_or s i 0) ≡ get_or s i 0 - 48
     value f = let w = decimal-within (get_or s i 0) (sym e ∙ f) in value-decimal (get_or s i 0) w.0 w.1
 
-    pub count-over : t ≡ true → limit < n * 10 + (get_or s i 0 - 48) → numbered s Malformed ≡ whole
+    pub count-over : t ≡ true → limit < n * 10 + (get_or s i 0 - 48) → numbered s None ≡ whole
     unfolding decimal_after
     count-over f o = rw (next s i h, sym e ∙ f, value f, lt-leb (n * 10 + (get_or s i 0 - 48)) limit o) at x.rest
 
@@ -233,28 +256,29 @@ module _ (limit : ℕ) (s : List ℕ) (i n : ℕ) (whole : Parsed ℕ) (x : Coun
     unfolding decimal_after
     count-more f o = record { small = o; rest = rw (next s i h, sym e ∙ f, value f, le-leb (n * 10 + (get_or s i 0 - 48)) limit o) at x.rest }
 
-pub byte-wide : (xs : List ℕ) (i : ℕ) → ((j : ℕ) → Fits w8 (get_or xs j 0)) → Fits w64 (get_or xs i 0)
-byte-wide xs i h = Fits-widen tt (h i)
-
-pub ruleset digits_laws = (decimal-high, decimal-low, byte-wide, count_none, count-end, count-stop, count-digit, count-over, count-more)
-
 module _ (limit : ℕ) (s : List ℕ) (at : ℕ) where
-  pub decimal-past : length s ≤ at → numbered s Malformed ≡ decimal limit (drop at s)
+  pub decimal-past : (r : Option (ℕ × ℕ)) → length s ≤ at → r ≡ None → numbered s r ≡ decimal limit (drop at s)
   unfolding decimal
-  decimal-past h = rw (drop_of_length-le s h)
+  decimal-past r h e = rw (e, drop_of_length-le s h)
 
-  module _ (h : at < length s) where
-    pub decimal-zero : get_or s at 0 ≡ 48 → numbered s (Value 0 (at + 1)) ≡ decimal limit (drop at s)
+  module _ (x : ℕ) (h : at < length s) (g : (d : ℕ) → x ≡ get_or s at d) where
+    pub decimal-zero : x ≡ 48 → numbered s (Some (0, (at + 1))) ≡ decimal limit (drop at s)
     unfolding decimal
-    decimal-zero z = rw (next s at h, eq-eqb (get_or s at 0) 48 z)
+    decimal-zero z = rw (next s at h, eq-eqb (get_or s at 0) 48 (sym (g 0) ∙ z))
 
-    module _ (t : Bool) (z : get_or s at 0 ≡ 48 → ⊥) (e : t ≡ is_decimal (get_or s at 0)) where
-      pub decimal-other : t ≡ false → numbered s Malformed ≡ decimal limit (drop at s)
+    module _ (t : Bool) (z : x ≡ 48 → ⊥) (e : t ≡ is_decimal x) where
+      not-zero : get_or s at 0 ≡ 48 → ⊥
+      not-zero q = z (g 0 ∙ q)
+
+      test : is_decimal (get_or s at 0) ≡ t
+      test = ap is_decimal (sym (g 0)) ∙ sym e
+
+      pub decimal-other : t ≡ false → numbered s None ≡ decimal limit (drop at s)
       unfolding decimal
-      decimal-other f = rw (next s at h, ne_eqb (get_or s at 0) 48 z, sym e ∙ f)
+      decimal-other f = rw (next s at h, ne_eqb (get_or s at 0) 48 not-zero, test ∙ f)
 
-      pub decimal-digits : (r : Number) → t ≡ true → numbered s r ≡ decimal_after limit 0 (drop at s) → numbered s r ≡ decimal limit (drop at s)
+      pub count_none : t ≡ true → Counting limit s at 0 (decimal limit (drop at s))
       unfolding decimal
-      decimal-digits r f q = q ∙ simp (next s at h, ne_eqb (get_or s at 0) 48 z, sym e ∙ f)
+      count_none f = record { small = omega arith; rest = sym (simp (next s at h, ne_eqb (get_or s at 0) 48 not-zero, test ∙ f)) }
 
-pub ruleset decimal_laws = (decimal-past, decimal-zero, decimal-other, decimal-digits)
+pub ruleset decimal_laws = (decimal-past, decimal-zero, decimal-other, count_none, count-end, count-stop, count-digit, count-over, count-more)

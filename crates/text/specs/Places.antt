@@ -1,21 +1,17 @@
 -- What the readers' answers say: an answer with a place of the text says what is left of the text, as a rule does. Definitions only. Assumes
 -- nothing.
-use Rattle.std.specs.Prelude.{◌≡◌, List, ℕ, ◌<◌, length, get_or, drop}
+use Rattle.std.specs.Prelude.{◌≡◌, List, ℕ, ◌<◌, length, get_or, drop, Option, Some, None}
 use Rattle.text.specs.Rules.{Parsed, malformed, parsed, value_of}
-use Rattle.text.specs.declared.Place.{Place}
-use Rattle.text.specs.declared.Place.TheVariants.{At, Missing}
-use Rattle.text.specs.declared.Number.{Number}
-use Rattle.text.specs.declared.Number.TheVariants.{Value, Malformed}
 
 -- ---- answers, in the text s
 
-abbrev pub placed : List ℕ → Place → Parsed Unit
-placed s (At i) = parsed tt (drop i s)
-placed s Missing = malformed
+abbrev pub placed : List ℕ → Option ℕ → Parsed Unit
+placed s (Some i) = parsed tt (drop i s)
+placed s None = malformed
 
-abbrev pub numbered : List ℕ → Number → Parsed ℕ
-numbered s (Value n i) = parsed n (drop i s)
-numbered s Malformed = malformed
+abbrev pub numbered : List ℕ → Option (ℕ × ℕ) → Parsed ℕ
+numbered s (Some (n, i)) = parsed n (drop i s)
+numbered s None = malformed
 
 -- ---- what is asked
 

@@ -1,11 +1,11 @@
 -- What is printed reads back: a fixed text, a word, a decimal number. Assumes nothing.
-use Rattle.std.specs.Prelude.{◌≡◌, refl, Bool, true, false, cond, List, [], ◌∷◌, ◌++◌, ℕ, zero, suc, ◌+◌, ◌-◌, ◌*◌, ◌/◌, ◌%◌, ◌^◌, ◌≤◌, ◌<◌, ltb, leb, eqb}
+use Rattle.std.specs.Prelude.{◌≡◌, refl, true, false, cond, List, [], ◌∷◌, ◌++◌, ℕ, zero, suc, ◌+◌, ◌*◌, ◌/◌, ◌%◌, ◌^◌, ◌≤◌, ◌<◌, ltb}
 use Rattle.std.proofs.Common.{sym, ap, ◌∙◌, subst, append_assoc, mod-lt, div-lt_iff_lt-mul, pow-suc, mul_comm, mul_assoc, add_assoc, add-mul, arith, lit<, lt-ltb, le-ltb, le-leb, eq-eqb, ne_eqb}
 use Rattle.std.proofs.Math.Nat.{one-le-pow}
 use Rattle.std.proofs.Math.Decide.{dec_lt, ℕ_discrete}
 use Rattle.std.proofs.Math.Arith.{mod-mul}
 use Rattle.text.specs.Text.{digit, hex_text, word_text, decimal_in, decimal_text}
-use Rattle.text.specs.Rules.{Parsed, malformed, parsed, literal, is_decimal, value_of, hex_after, word, decimal_after, decimal, starts_decimal}
+use Rattle.text.specs.Rules.{parsed, literal, is_decimal, hex_after, word, decimal_after, decimal, starts_decimal}
 use Rattle.text.specs.DigitLaws.{decimal-is, digit_low, value-digit}
 
 -- ---- a fixed text

@@ -1,7 +1,6 @@
 -- Rules of a grammar. A rule takes a text, and gives the value that stands at its start with the rest of the text, or finds that the text does not
 -- start as the rule says. Definitions only. Assumes nothing.
 use Rattle.std.specs.Prelude.{Bool, false, cond, ◌&&◌, List, [], ◌∷◌, ℕ, zero, suc, ◌+◌, ◌*◌, ◌-◌, leb, ltb, eqb}
-use Rattle.text.specs.Text.{bytes}
 
 -- ---- rules
 

@@ -1,7 +1,7 @@
--- The ways through the code that puts a shape together (`shape_laws`), judges a given tree (`judged_laws`) and makes one (`made_laws`), and what
--- their entry points do with the lengths (`part_laws`, `entry_laws`). Assumes nothing.
+-- The ways through the code that puts a shape together (`shape_laws`), and through `new` and `validate`: the place for the parents, which is part of a
+-- list of marks (`place-fits` and on), a given tree that is judged, one that is made, and lengths that do not fit. Assumes nothing.
 use mathlib.Core.Path.{◌≡◌, refl, sym, ap, ◌∙◌, subst}
-use mathlib.Core.Bool.{Bool, true, false, ◌&&◌, cond}
+use mathlib.Core.Bool.{Bool, true, false, not, ◌&&◌, cond}
 use mathlib.Core.List.{List, [], ◌∷◌}
 use Prim.Native.Nat.{ℕ, ◌+◌, ◌-◌, ◌/◌, ◌≤◌, ◌<◌}
 use native.Mathlib.Omega.{arith}
@@ -13,39 +13,40 @@ use lib.Ieee.Fits.{and_l, and_r}
 use lib.Ieee.Bits.{is_true}
 use borrow.Author.Tests.{eq-eqb, ne_eqb}
 use Rattle.answer.specs.declared.Refusal.{Refusal}
-use Rattle.answer.specs.declared.Refusal.TheVariants.{Size, Disconnected, Height}
-use Rattle.tree.specs.declared.Verdict.{Verdict}
-use Rattle.tree.specs.declared.Verdict.TheVariants as Verdicts
-use Rattle.tree.specs.declared.Rooted.{Rooted}
-use Rattle.tree.specs.declared.Rooted.TheVariants as Roots
-use Rattle.tree.specs.Tree.{no_node, height, parent, subtree, nodes_of, first_in, second_in}
-use Rattle.tree.specs.New.{scan, roots, only_root, root_of, unshaped, shaping, joined, scanned, shape_of, size_fits, misdated, lowest, agree, judged, validated, New, refused, dated, new_from, new_tree, new_answered, NewCall, new_call}
-use Rattle.tree.specs.Given.{scan_of, shaping_of, tree_of, dates_in, new_given, sizes_fit, Scans, Inside, Makes, Blank}
+use Rattle.answer.specs.declared.Refusal.TheVariants.{Size, Disconnected}
+use Rattle.tree.specs.Tree.{Tree, no_node, subtree, nodes_of, first_in, second_in}
+use Rattle.tree.proofs.SliceLaws.{agree-same, agree-not}
+use lib.Pointwise.{pointwise}
+use Rattle.std.specs.Cmp.Lexicographic.{same_text, other_text}
+use Rattle.std.proofs.lemmas.List.{length-replicate, take-replicate}
+use Rattle.tree.specs.New.{scan, roots, only_root, root_of, Shaping, unshaped, shaping, joined, scanned, shape_of, size_fits, dates_of, judged, validated, New, refused, dated, new_from, new_tree, new_answered, new_call}
+use Rattle.tree.specs.Given.{scan_of, shaping_of, tree_of, new_given, sizes_fit, Scans, Inside}
 use Rattle.tree.specs.SizeLaws.{Fit, fit_of}
 use Rattle.tree.specs.ScanLaws.{scan-inv, roots-sound}
+use Rattle.std.specs.Prelude.{Result, Ok, Err}
 
 -- ---- a shape
 
-only-is : (l : List ℕ) (k : ℕ) → only_root l ≡ Roots.Root k → l ≡ k ∷ []
-only-is [] k e = let z : ◌≡◌ {A = ℕ} 0 1 = cc in absurd (omega arith)
+only-is : (l : List ℕ) (k : ℕ) → only_root l ≡ Ok k → l ≡ k ∷ []
+only-is [] k e = absurd cc
 only-is (r ∷ []) k e = let z : r ≡ k = cc in rw z
-only-is (r ∷ q ∷ l) k e = let z : ◌≡◌ {A = ℕ} 0 1 = cc in absurd (omega arith)
+only-is (r ∷ q ∷ l) k e = absurd cc
 
-module _ (pairs ps₀ ps : List ℕ) (r : Verdict) (e : scan_of r ps ≡ scan (length ps₀) pairs (length ps₀)) where
-  pub shape-stopped : (why : Refusal) → r ≡ Verdicts.Refused why → unshaped why ≡ shape_of (length ps₀) pairs
+module _ (pairs ps₀ ps : List ℕ) (r : Result (Unit {0}) Refusal) (e : scan_of r ps ≡ scan (length ps₀) pairs (length ps₀)) where
+  pub shape-stopped : (why : Refusal) → r ≡ Err why → unshaped why ≡ shape_of (length ps₀) pairs
   unfolding scanned
   shape-stopped why y = rw (← e, y)
 
-  module _ (y : r ≡ Verdicts.Fine) (x : Rooted) (f : x ≡ root_of ps) where
-    pub shape-rootless : (why : Refusal) → x ≡ Roots.Refused why → unshaped why ≡ shape_of (length ps₀) pairs
+  module _ (y : r ≡ Ok tt) (x : Result ℕ Refusal) (f : x ≡ root_of ps) where
+    pub shape-rootless : (why : Refusal) → x ≡ Err why → unshaped why ≡ shape_of (length ps₀) pairs
     unfolding scanned joined
     shape-rootless why z = rw (← e, y, ← f, z)
 
-    module _ (k : ℕ) (z : x ≡ Roots.Root k) (l : length ps ≡ length ps₀) where
+    module _ (k : ℕ) (z : x ≡ Ok k) (l : length ps ≡ length ps₀) where
       pub shape-inside : Scans pairs ps₀ → Inside (length ps) pairs k
       shape-inside s =
           let n = length ps₀ in
-          let v = scan-inv n s.few pairs n (omega arith) ps (sym e ∙ ap (λ (q : Verdict). scan_of q ps) y) in
+          let v = scan-inv n s.few pairs n (omega arith) ps (sym e ∙ ap (λ (q : Result (Unit {0}) Refusal). scan_of q ps) y) in
           let h = roots-sound ps (length ps) k (rw (only-is (roots ps (length ps)) k (sym f ∙ z)) (0, omega arith, refl)) in
           let few = s.few in
           let twice = s.twice in
@@ -68,116 +69,103 @@ module _ (pairs ps₀ ps : List ℕ) (r : Verdict) (e : scan_of r ps ≡ scan (l
 
 pub ruleset shape_laws = (shape-stopped, shape-rootless, shape-inside, shape-parts, shape-whole)
 
--- ---- the heights' test reads no pairs
+-- ---- the place for the parents: as many marks as nodes
 
-module _ (pairs ps : List ℕ) (hs : List Float) (r : ℕ) where
-  dates-are : lowest (misdated (dates_in ps hs r)) Height (length hs) ≡ lowest (misdated (tree_of pairs ps hs r)) Height (length hs)
-  unfolding misdated height parent
-  dates-are = refl
+module _ (pairs ps : List ℕ) (hs : List Float) (b : Bool) (e : b ≡ sizes_fit (length pairs / 2) (length pairs) (length ps) (length hs)) (y : b ≡ true) where
+  all_fit : T (size_fits (length pairs / 2) pairs hs && eqb (length ps) (length pairs / 2))
+  unfolding sizes_fit
+  all_fit = subst T (sym y ∙ e) tt
 
--- ---- a given tree is judged
+  fit : T (size_fits (length pairs / 2) pairs hs)
+  fit = and_l (size_fits (length pairs / 2) pairs hs) (eqb (length ps) (length pairs / 2)) all_fit
 
-module _ (pairs ps place qs : List ℕ) (hs : List Float) (root : ℕ) (x : Rooted) (e : shaping_of x qs ≡ shape_of (length place) pairs) where
-  pub judged-unshaped : (why : Refusal) → x ≡ Roots.Refused why → Verdicts.Refused why ≡ judged (tree_of pairs ps hs root) (shape_of (length place) pairs)
-  unfolding judged
-  judged-unshaped why y = rw (← e, y)
+  pub parents-fit : length ps ≡ length pairs / 2
+  parents-fit = eqb→eq (length ps) (length pairs / 2) (and_r (size_fits (length pairs / 2) pairs hs) (eqb (length ps) (length pairs / 2)) all_fit)
 
-  module _ (k : ℕ) (y : x ≡ Roots.Root k) where
-    pub judged-root : (k ≡ root → ⊥) → Verdicts.Refused Disconnected ≡ judged (tree_of pairs ps hs root) (shape_of (length place) pairs)
-    unfolding judged
-    judged-root d = rw (← e, y, ne_eqb _ _ d)
+  fits : Fit (length pairs / 2) pairs hs
+  fits = fit_of (length pairs / 2) pairs hs fit
 
-    module _ (d : k ≡ root) (b : Bool) (f : b ≡ agree qs ps (length qs)) where
-      pub judged-parents : b ≡ false → Verdicts.Refused Disconnected ≡ judged (tree_of pairs ps hs root) (shape_of (length place) pairs)
-      unfolding judged
-      judged-parents q = rw (← e, y, eq-eqb _ _ d, ← f, q)
+  pub place-fits : length pairs / 2 ≤ 4095
+  place-fits = fits.few
 
-      pub judged-dates : (v : Verdict) → b ≡ true → v ≡ lowest (misdated (dates_in ps hs root)) Height (length hs) → v ≡ judged (tree_of pairs ps hs root) (shape_of (length place) pairs)
-      unfolding judged
-      judged-dates v q g = (g ∙ dates-are pairs ps hs root) ∙ rw (← e, y, eq-eqb _ _ d, ← f, q)
+  module _ (m : ℕ) (h : 4095 ≤ m) where
+    pub place-long : length pairs / 2 ≡ length (take (length pairs / 2) (replicate m no_node))
+    place-long = let f = place-fits in let g = length-replicate m no_node in sym (length-take-le _ _ (omega arith))
 
-pub ruleset judged_laws = (judged-unshaped, judged-root, judged-parents, judged-dates)
+    pub place-scans : Scans pairs (take (length pairs / 2) (replicate m no_node))
+    place-scans =
+        let few = place-fits in
+        let long = place-long in
+        let twice = fits.twice in
+        record {
+          few = omega arith;
+          twice = omega arith;
+          blank = take-replicate (length pairs / 2) m no_node (omega arith) ∙ ap (λ (k : ℕ). replicate k no_node) long;
+        }
 
--- ---- a tree is made
+    -- the pairs' shape, x with the parents qs
+    module _ (x : Result ℕ Refusal) (qs : List ℕ) (s : shaping_of x qs ≡ shape_of (length (take (length pairs / 2) (replicate m no_node))) pairs) where
+      shaped : shaping_of x qs ≡ shape_of (length pairs / 2) pairs
+      shaped = s ∙ ap (λ (n : ℕ). shape_of n pairs) (sym place-long)
 
-module _ (pairs ps place qs : List ℕ) (hs : List Float) (x : Rooted) (e : shaping_of x qs ≡ shape_of (length place) pairs) where
-  pub made-unshaped : (why : Refusal) → x ≡ Roots.Refused why → new_given (Roots.Refused why) ps ≡ new_answered ps (new_from pairs hs (shape_of (length place) pairs))
-  unfolding new_from
-  made-unshaped why y = rw (← e, y)
+      -- a given tree is judged
+      module _ (root : ℕ) (t : Tree) (v : tree_of pairs ps hs root ≡ t) where
+        judged-is : judged (tree_of pairs ps hs root) (shaping_of x qs) ≡ validated t
+        unfolding validated sizes_fit
+        judged-is = ap (judged (tree_of pairs ps hs root)) shaped ∙ rw (← v, ← e, y)
 
-  module _ (k : ℕ) (y : x ≡ Roots.Root k) (v : Verdict) (g : v ≡ lowest (misdated (dates_in qs hs k)) Height (length hs)) where
-    dates-here : v ≡ lowest (misdated (tree_of pairs qs hs k)) Height (length hs)
-    dates-here = g ∙ dates-are pairs qs hs k
+        pub validate-unshaped : (why : Refusal) → x ≡ Err why → Err why ≡ validated t
+        unfolding judged
+        validate-unshaped why z = rw (← judged-is, z)
 
-    pub made-misdated : (why : Refusal) → v ≡ Verdicts.Refused why → new_given (Roots.Refused why) ps ≡ new_answered ps (new_from pairs hs (shape_of (length place) pairs))
-    unfolding new_from dated
-    made-misdated why z = rw (← e, y, ← dates-here, z)
+        module _ (k : ℕ) (z : x ≡ Ok k) where
+          pub validate-root : (k ≡ root → ⊥) → Err Disconnected ≡ validated t
+          unfolding judged
+          validate-root d = rw (← judged-is, z, ne_eqb _ _ d)
 
-    pub made-whole : (ps' : List ℕ) → v ≡ Verdicts.Fine → ps' ≡ qs → new_given (Roots.Root k) ps' ≡ new_answered ps (new_from pairs hs (shape_of (length place) pairs))
-    unfolding new_from dated
-    made-whole ps' z q = rw (← e, y, ← dates-here, z, q)
+          -- other is whether its parents are not those that are given
+          module _ (d : k ≡ root) (other : Bool) (o : other ≡ not (pointwise eqb qs ps)) where
+            pub validate-parents : other ≡ true → length qs ≡ length ps → Err Disconnected ≡ validated t
+            unfolding judged
+            validate-parents p l = rw (← judged-is, z, eq-eqb _ _ d, agree-not qs ps (other_text qs ps (grind arith)) l)
 
-pub ruleset made_laws = (made-unshaped, made-misdated, made-whole)
+            pub validate-dates : other ≡ false → dates_of t ≡ validated t
+            unfolding judged
+            validate-dates p = rw (← judged-is, z, eq-eqb _ _ d, same_text qs ps (grind arith), agree-same ps (length ps), ← v)
 
--- ---- the lengths, and the place for the parents
+      -- a tree is made
+      made-is : new_answered ps (new_from pairs hs (shaping_of x qs)) ≡ new_call pairs hs ps
+      unfolding new_call new_tree
+      made-is = ap (λ (g : Shaping). new_answered ps (new_from pairs hs g)) shaped ∙ rw (is_true (size_fits (length pairs / 2) pairs hs) fit, eq-eqb _ _ parents-fit)
+
+      pub new-unshaped : (why : Refusal) → x ≡ Err why → new_given (Err why) ps ≡ new_call pairs hs ps
+      unfolding new_from
+      new-unshaped why z = rw (← made-is, z)
+
+      module _ (k : ℕ) (z : x ≡ Ok k) (v : Result (Unit {0}) Refusal) (g : v ≡ dates_of (tree_of pairs qs hs k)) where
+        pub new-misdated : (why : Refusal) → v ≡ Err why → new_given (Err why) ps ≡ new_call pairs hs ps
+        unfolding new_from dated
+        new-misdated why w = rw (← made-is, z, ← g, w)
+
+        pub new-made : v ≡ Ok tt → new_given (Ok k) qs ≡ new_call pairs hs ps
+        unfolding new_from dated
+        new-made w = rw (← made-is, z, ← g, w)
+
+-- ---- other lengths
 
 no_size : (fits long : Bool) (x y : New) → (fits && long) ≡ false → cond long (cond fits x y) y ≡ y
-no_size true true x y e = let z : ◌≡◌ {A = ℕ} 0 1 = cc in absurd (omega arith)
+no_size true true x y e = absurd cc
 no_size true false x y e = refl
 no_size false true x y e = refl
 no_size false false x y e = refl
 
-module _ (pairs ps : List ℕ) (hs : List Float) (b : Bool) (e : b ≡ sizes_fit (length pairs / 2) (length pairs) (length ps) (length hs)) where
-  pub entry-size-new : b ≡ false → new_given (Roots.Refused (Size (length pairs / 2))) ps ≡ new_call pairs hs ps
+module _ (pairs ps : List ℕ) (hs : List Float) (b : Bool) (e : b ≡ sizes_fit (length pairs / 2) (length pairs) (length ps) (length hs)) (y : b ≡ false) where
+  pub new_size : new_given (Err (Size (length pairs / 2))) ps ≡ new_call pairs hs ps
   unfolding new_call new_tree sizes_fit
-  entry-size-new y =
+  new_size =
       let n = nodes_of pairs in
       sym (ap (new_answered ps) (no_size (size_fits n pairs hs) (eqb (length ps) n) (new_from pairs hs (shape_of n pairs)) (refused (Size n)) (sym e ∙ y)))
 
-  pub entry-size-validate : (root : ℕ) → b ≡ false → Verdicts.Refused (Size (length pairs / 2)) ≡ validated (tree_of pairs ps hs root)
+  pub validate_size : (root : ℕ) (t : Tree) → tree_of pairs ps hs root ≡ t → Err (Size (length pairs / 2)) ≡ validated t
   unfolding validated sizes_fit
-  entry-size-validate root y = rw (← e, y)
-
-  module _ (y : b ≡ true) where
-    all_fit : T (size_fits (length pairs / 2) pairs hs && eqb (length ps) (length pairs / 2))
-    unfolding sizes_fit
-    all_fit = subst T (sym y ∙ e) tt
-
-    fit : T (size_fits (length pairs / 2) pairs hs)
-    fit = and_l (size_fits (length pairs / 2) pairs hs) (eqb (length ps) (length pairs / 2)) all_fit
-
-    parents-fit : length ps ≡ length pairs / 2
-    parents-fit = eqb→eq (length ps) (length pairs / 2) (and_r (size_fits (length pairs / 2) pairs hs) (eqb (length ps) (length pairs / 2)) all_fit)
-
-    fits : Fit (length pairs / 2) pairs hs
-    fits = fit_of (length pairs / 2) pairs hs fit
-
-    module _ (l : List ℕ) (m : Blank l) where
-      pub part-fits : length pairs / 2 ≤ length l
-      part-fits = let f = fits.few in let g = m.long in omega arith
-
-      pub part-long : length (take (length pairs / 2) l) ≡ length pairs / 2
-      part-long = length-take-le (length pairs / 2) l part-fits
-
-      pub part-makes : Makes pairs hs ps (take (length pairs / 2) l)
-      part-makes =
-          let few = fits.few in
-          let long = part-long in
-          let twice = fits.twice in
-          record {
-            scans = record { few = omega arith; twice = omega arith; blank = m.marks (length pairs / 2) few ∙ ap (λ (k : ℕ). replicate k no_node) (sym long) };
-            parents = parents-fit ∙ sym long;
-            heights = fits.heights ∙ sym long;
-          }
-
-      pub entry-judged : (root : ℕ) (v : Verdict) → v ≡ judged (tree_of pairs ps hs root) (shape_of (length (take (length pairs / 2) l)) pairs) → v ≡ validated (tree_of pairs ps hs root)
-      unfolding validated sizes_fit
-      entry-judged root v f = (f ∙ ap (λ (n : ℕ). judged (tree_of pairs ps hs root) (shape_of n pairs)) part-long) ∙ rw (← e, y)
-
-      pub entry-made : (v : NewCall) → v ≡ new_answered ps (new_from pairs hs (shape_of (length (take (length pairs / 2) l)) pairs)) → v ≡ new_call pairs hs ps
-      unfolding new_call new_tree
-      entry-made v f =
-          let n = nodes_of pairs in
-          (f ∙ ap (λ (n : ℕ). new_answered ps (new_from pairs hs (shape_of n pairs))) part-long) ∙ rw (is_true (size_fits n pairs hs) fit, eq-eqb _ _ parents-fit)
-
-pub ruleset entry_laws = (entry-size-new, entry-size-validate, part-fits, part-long, part-makes, entry-judged, entry-made)
+  validate_size root t v = rw (← v, ← e, y)

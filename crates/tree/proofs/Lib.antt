@@ -2,6 +2,5 @@
 mod ParentLaws
 mod RootLaws
 mod WalkLaws
-mod DateLaws
 mod SliceLaws
 mod CallLaws

@@ -9,11 +9,10 @@ use lib.ListN.{length, get_or, set}
 use borrow.Author.Tests.{lt-ltb, le-ltb, lt-leb, le-leb, eq-eqb, ne_eqb}
 use Rattle.answer.specs.declared.Refusal.{Refusal}
 use Rattle.answer.specs.declared.Refusal.TheVariants.{Shape}
-use Rattle.tree.specs.declared.Verdict.{Verdict}
-use Rattle.tree.specs.declared.Verdict.TheVariants.{Fine, Refused}
 use Rattle.tree.specs.PlaceLaws.{next_place}
 use Rattle.tree.specs.New.{stopped, filled, adopt, then_adopt, visit, scan}
 use Rattle.tree.specs.Given.{scan_of, Scans}
+use Rattle.std.specs.Prelude.{Result, Ok, Err}
 
 -- ---- one child
 
@@ -43,12 +42,12 @@ module _ (pairs ps : List ℕ) (k : ℕ) where
   unfolding visit
   visit-equal i e = rw (lt-ltb _ _ i, ← next_place pairs k, eq-eqb _ _ e)
 
-  module _ (i : length ps < k + k) (e : get_or pairs (k + k) 0 ≡ get_or pairs (k + k + 1) 0 → ⊥) (r : Verdict) (qs : List ℕ) (a : scan_of r qs ≡ adopt (length ps) k (get_or pairs (k + k) 0) ps) where
-    pub visit-first : (why : Refusal) → r ≡ Refused why → stopped why ≡ visit (length ps) pairs k (filled ps)
+  module _ (i : length ps < k + k) (e : get_or pairs (k + k) 0 ≡ get_or pairs (k + k + 1) 0 → ⊥) (r : Result (Unit {0}) Refusal) (qs : List ℕ) (a : scan_of r qs ≡ adopt (length ps) k (get_or pairs (k + k) 0) ps) where
+    pub visit-first : (why : Refusal) → r ≡ Err why → stopped why ≡ visit (length ps) pairs k (filled ps)
     unfolding visit then_adopt
     visit-first why b = rw (lt-ltb _ _ i, ← next_place pairs k, ne_eqb _ _ e, ← a, b)
 
-    pub visit-both : (r' : Verdict) (qs' : List ℕ) → r ≡ Fine → length qs ≡ length ps → scan_of r' qs' ≡ adopt (length qs) k (get_or pairs (k + k + 1) 0) qs → scan_of r' qs' ≡ visit (length ps) pairs k (filled ps)
+    pub visit-both : (r' : Result (Unit {0}) Refusal) (qs' : List ℕ) → r ≡ Ok tt → length qs ≡ length ps → scan_of r' qs' ≡ adopt (length qs) k (get_or pairs (k + k + 1) 0) qs → scan_of r' qs' ≡ visit (length ps) pairs k (filled ps)
     unfolding visit then_adopt
     visit-both r' qs' b l d = rw (lt-ltb _ _ i, ← next_place pairs k, ne_eqb _ _ e, ← a, b, ← l, d)
 
@@ -79,12 +78,12 @@ module _ (pairs ps₀ ps : List ℕ) (m : ℕ) where
   scan-start s = ap filled (sym s.blank)
 
   module _ (i : scan (length ps₀) pairs m ≡ filled ps) (l : length ps ≡ length ps₀) where
-    module _ (r : Verdict) (qs : List ℕ) (e : scan_of r qs ≡ visit (length ps) pairs m (filled ps)) where
-      pub scan_step : r ≡ Fine → scan (length ps₀) pairs (m + 1) ≡ filled qs
+    module _ (r : Result (Unit {0}) Refusal) (qs : List ℕ) (e : scan_of r qs ≡ visit (length ps) pairs m (filled ps)) where
+      pub scan_step : r ≡ Ok tt → scan (length ps₀) pairs (m + 1) ≡ filled qs
       unfolding scan
       scan_step y = rw (add-one, i, ← l, ← e, y)
 
-      pub scan-stop : (why : Refusal) → m < length ps → r ≡ Refused why → stopped why ≡ scan (length ps₀) pairs (length ps₀)
+      pub scan-stop : (why : Refusal) → m < length ps → r ≡ Err why → stopped why ≡ scan (length ps₀) pairs (length ps₀)
       unfolding scan
       scan-stop why h y =
           let d = length ps₀ - suc m in

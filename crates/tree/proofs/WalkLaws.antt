@@ -24,7 +24,7 @@ module _ (n : ℕ) (pairs : List ℕ) (k : ℕ) where
     unfolding subtree
     walk-flat h = rw h (omega arith)
 
-    pub walk-spent : left ≡ 0 → 0 ≡ left - length (subtree d n pairs k)
+    pub walk-spent : left ≡ 0 → left ≡ left - length (subtree d n pairs k)
     walk-spent h = rw h (omega arith)
 
     pub walk-tip : (d ≡ 0 → ⊥) → k + k ≤ n → left - 1 ≡ left - length (subtree d n pairs k)

@@ -1,30 +1,27 @@
 -- The forms in which the code of tree hands on what the definitions say, and what its internal functions ask. Definitions only. Assumes
 -- nothing.
-use Rattle.std.specs.Prelude.{◌≡◌, Bool, ◌&&◌, List, [], ℕ, ◌+◌, ◌%◌, ◌≤◌, ◌<◌, leb, eqb, length, take, replicate, Float}
-use Rattle.tree.specs.declared.Verdict.{Verdict}
-use Rattle.tree.specs.declared.Verdict.TheVariants as Verdicts
-use Rattle.tree.specs.declared.Rooted.{Rooted}
-use Rattle.tree.specs.declared.Rooted.TheVariants as Roots
+use Rattle.std.specs.Prelude.{◌≡◌, Bool, ◌&&◌, List, [], ℕ, ◌+◌, ◌%◌, ◌≤◌, ◌<◌, leb, eqb, length, replicate, Float, Result, Ok, Err}
 use Rattle.tree.specs.Tree.{Tree, no_node, first_in, second_in}
 use Rattle.tree.specs.New.{Scan, stopped, filled, Shaping, unshaped, shaping, NewCall}
+use Rattle.answer.specs.declared.Refusal.{Refusal}
 
 -- ---- an answer with the slice beside it
 
-abbrev pub scan_of : Verdict → List ℕ → Scan
-scan_of Verdicts.Fine ps = filled ps
-scan_of (Verdicts.Refused why) ps = stopped why
+abbrev pub scan_of : Result (Unit {0}) Refusal → List ℕ → Scan
+scan_of (Ok tt) ps = filled ps
+scan_of (Err why) ps = stopped why
 
-abbrev pub shaping_of : Rooted → List ℕ → Shaping
-shaping_of (Roots.Root r) ps = shaping ps r
-shaping_of (Roots.Refused why) ps = unshaped why
+abbrev pub shaping_of : Result ℕ Refusal → List ℕ → Shaping
+shaping_of (Ok r) ps = shaping ps r
+shaping_of (Err why) ps = unshaped why
 
-abbrev pub new_given : Rooted → List ℕ → NewCall
+abbrev pub new_given : Result ℕ Refusal → List ℕ → NewCall
 new_given r ps = record { answer = r; parents = ps }
 
 abbrev pub tree_of : List ℕ → List ℕ → List Float → ℕ → Tree
 tree_of pairs ps hs r = record { pairs = pairs; parents = ps; heights = hs; root = r }
 
--- what the heights' test reads of a tree
+-- what is read of a tree where only parents and heights are
 abbrev pub dates_in : List ℕ → List Float → ℕ → Tree
 dates_in ps hs r = tree_of [] ps hs r
 
@@ -35,6 +32,10 @@ kin_in pairs hs = tree_of pairs [] hs 0
 -- the lengths of a tree of n nodes
 unfoldable pub sizes_fit : ℕ → ℕ → ℕ → ℕ → Bool
 sizes_fit n pairs parents heights = leb 3 n && leb n 4095 && eqb (n % 2) 1 && eqb pairs (n + n) && eqb heights n && eqb parents n
+
+-- a parent that is none
+abbrev pub is_no_node : ℕ → Bool
+is_no_node p = eqb p no_node
 
 -- ---- what is asked
 
@@ -55,18 +56,3 @@ pub record Inside (n : ℕ) (pairs : List ℕ) (k : ℕ) : Type 0 where
   pub node : k < n
   pub one : (j : ℕ) → j < n → n < j + j → first_in pairs j < n
   pub two : (j : ℕ) → j < n → n < j + j → second_in pairs j < n
-
-pub record Dates (ps : List ℕ) (hs : List Float) (k : ℕ) : Type 0 where
-  pub node : k < length ps
-  pub height : k < length hs
-
--- a place for the parents that the pairs give, as long as the lent ones and the heights
-pub record Makes (pairs : List ℕ) (hs : List Float) (ps place : List ℕ) : Type 0 where
-  pub scans : Scans pairs place
-  pub parents : length ps ≡ length place
-  pub heights : length hs ≡ length place
-
--- 4,095 marks
-pub record Blank (l : List ℕ) : Type 0 where
-  pub long : length l ≡ 4095
-  pub marks : (k : ℕ) → k ≤ 4095 → take k l ≡ replicate k no_node

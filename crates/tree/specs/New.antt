@@ -1,15 +1,11 @@
 -- `Tree::new` on pairs and heights, and `validate` on all that a tree has: what they give, or what they refuse, in the order of the refusals'
 -- numbers. Scans go over the first m nodes. Definitions only. Assumes nothing.
-use Rattle.std.specs.Prelude.{◌≡◌, Bool, true, not, ◌&&◌, ◌||◌, cond, List, [], ◌∷◌, ◌++◌, ℕ, zero, suc, ◌+◌, ◌%◌, leb, eqb, length, get_or, set, replicate, Float}
+use Rattle.std.specs.Prelude.{◌≡◌, Bool, true, not, ◌&&◌, ◌||◌, cond, List, [], ◌∷◌, ◌++◌, ℕ, zero, suc, ◌+◌, ◌%◌, leb, eqb, length, get_or, set, replicate, Float, Result, Ok, Err}
 use Rattle.std.specs.Float.Ieee.{lt, le}
 use Rattle.std.specs.Float.Ieee.Scale.{finite}
 use Rattle.answer.specs.declared.Refusal.{Refusal}
 use Rattle.answer.specs.declared.Refusal.TheVariants.{Size, Shape, Disconnected, Height}
 use Rattle.real.specs.Real as Real
-use Rattle.tree.specs.declared.Verdict.{Verdict}
-use Rattle.tree.specs.declared.Verdict.TheVariants as Verdicts
-use Rattle.tree.specs.declared.Rooted.{Rooted}
-use Rattle.tree.specs.declared.Rooted.TheVariants as Roots
 use Rattle.tree.specs.Tree.{Tree, no_node, nodes_of, inner, first_in, second_in, parent, height, subtree}
 
 -- ---- the sizes
@@ -56,12 +52,12 @@ roots ps zero = []
 roots ps (suc m) = roots ps m ++ cond (eqb (get_or ps m 0) no_node) (m ∷ []) []
 
 -- the one there is
-abbrev pub only_root : List ℕ → Rooted
-only_root [] = Roots.Refused Disconnected
-only_root (r ∷ []) = Roots.Root r
-only_root (r ∷ q ∷ qs) = Roots.Refused Disconnected
+abbrev pub only_root : List ℕ → Result ℕ Refusal
+only_root [] = Err Disconnected
+only_root (r ∷ []) = Ok r
+only_root (r ∷ q ∷ qs) = Err Disconnected
 
-abbrev pub root_of : List ℕ → Rooted
+abbrev pub root_of : List ℕ → Result ℕ Refusal
 root_of ps = only_root (roots ps (length ps))
 
 -- ---- parents and root together
@@ -71,9 +67,9 @@ pub data Shaping : Type 0 where
   shaping : List ℕ → ℕ → Shaping
 
 -- the root's subtree has all nodes, or a ring stands beside it
-unfoldable pub joined : ℕ → List ℕ → List ℕ → Rooted → Shaping
-joined n pairs ps (Roots.Refused why) = unshaped why
-joined n pairs ps (Roots.Root r) = cond (eqb (length (subtree n n pairs r)) n) (shaping ps r) (unshaped Disconnected)
+unfoldable pub joined : ℕ → List ℕ → List ℕ → Result ℕ Refusal → Shaping
+joined n pairs ps (Err why) = unshaped why
+joined n pairs ps (Ok r) = cond (eqb (length (subtree n n pairs r)) n) (shaping ps r) (unshaped Disconnected)
 
 unfoldable pub scanned : ℕ → List ℕ → Scan → Shaping
 scanned n pairs (stopped why) = unshaped why
@@ -89,15 +85,15 @@ unfoldable pub misdated : Tree → ℕ → Bool
 misdated t k = lt (height t k) Real.zero || not (finite (height t k)) || (not (eqb k t.root) && not (le (height t k) (height t (parent t k))))
 
 -- the lowest of the first m numbers at which the test holds is refused
-abbrev pub or_refused : Verdict → Bool → Refusal → Verdict
-or_refused (Verdicts.Refused why) b next = Verdicts.Refused why
-or_refused Verdicts.Fine b next = cond b (Verdicts.Refused next) Verdicts.Fine
+abbrev pub or_refused : Result (Unit {0}) Refusal → Bool → Refusal → Result (Unit {0}) Refusal
+or_refused (Err why) b next = Err why
+or_refused (Ok tt) b next = cond b (Err next) (Ok tt)
 
-unfoldable pub lowest : (ℕ → Bool) → (ℕ → Refusal) → ℕ → Verdict
-lowest test why zero = Verdicts.Fine
+unfoldable pub lowest : (ℕ → Bool) → (ℕ → Refusal) → ℕ → Result (Unit {0}) Refusal
+lowest test why zero = (Ok tt)
 lowest test why (suc m) = or_refused (lowest test why m) (test m) (why m)
 
-abbrev pub dates_of : Tree → Verdict
+abbrev pub dates_of : Tree → Result (Unit {0}) Refusal
 dates_of t = lowest (misdated t) Height (length t.heights)
 
 -- ---- `Tree::new`
@@ -106,9 +102,9 @@ pub data New : Type 0 where
   refused : Refusal → New
   made : Tree → New
 
-unfoldable pub dated : Tree → Verdict → New
-dated t (Verdicts.Refused why) = refused why
-dated t Verdicts.Fine = made t
+unfoldable pub dated : Tree → Result (Unit {0}) Refusal → New
+dated t (Err why) = refused why
+dated t (Ok tt) = made t
 
 unfoldable pub new_from : List ℕ → List Float → Shaping → New
 new_from pairs heights (unshaped why) = refused why
@@ -129,24 +125,24 @@ agree a b zero = true
 agree a b (suc m) = agree a b m && eqb (get_or a m 0) (get_or b m 0)
 
 -- "given parents or root are not the pairs'": a 3, which comes before a height's 4
-unfoldable pub judged : Tree → Shaping → Verdict
-judged t (unshaped why) = Verdicts.Refused why
-judged t (shaping ps r) = cond (eqb r t.root && agree ps t.parents (length ps)) (dates_of t) (Verdicts.Refused Disconnected)
+unfoldable pub judged : Tree → Shaping → Result (Unit {0}) Refusal
+judged t (unshaped why) = Err why
+judged t (shaping ps r) = cond (eqb r t.root && agree ps t.parents (length ps)) (dates_of t) (Err Disconnected)
 
-unfoldable pub validated : Tree → Verdict
+unfoldable pub validated : Tree → Result (Unit {0}) Refusal
 validated t =
     let n = nodes_of t.pairs in
-    cond (size_fits n t.pairs t.heights && eqb (length t.parents) n) (judged t (shape_of n t.pairs)) (Verdicts.Refused (Size n))
+    cond (size_fits n t.pairs t.heights && eqb (length t.parents) n) (judged t (shape_of n t.pairs)) (Err (Size n))
 
 -- ---- `new` as it is called: the answer, and the lent parents afterwards
 
 pub record NewCall : Type 0 where
-  pub answer : Rooted
+  pub answer : Result ℕ Refusal
   pub parents : List ℕ
 
 abbrev pub new_answered : List ℕ → New → NewCall
-new_answered parents (refused why) = record { answer = Roots.Refused why; parents = parents }
-new_answered parents (made t) = record { answer = Roots.Root t.root; parents = t.parents }
+new_answered parents (refused why) = record { answer = Err why; parents = parents }
+new_answered parents (made t) = record { answer = Ok t.root; parents = t.parents }
 
 unfoldable pub new_call : List ℕ → List Float → List ℕ → NewCall
 new_call pairs heights parents =

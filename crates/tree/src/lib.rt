@@ -3,322 +3,221 @@
 #![tactic(auto)]
 
 ghost use Rattle.std.specs.Prelude.{◌≡◌, ◌-◌, ◌<◌, length};
-ghost use Rattle.answer.specs.declared.Refusal.TheVariants.{Height};
-ghost use Rattle.tree.specs.declared.Verdict.TheVariants.{Fine};
-ghost use Rattle.tree.specs.Tree.{subtree};
-ghost use Rattle.tree.specs.New.{adopt, visit, scan, root_of, shape_of, lowest, misdated, agree, judged, validated, new_call, new_from, new_answered};
-ghost use Rattle.tree.specs.Given.{scan_of, shaping_of, dates_in, tree_of, new_given, sizes_fit, Visits, Scans, Inside, Dates, Makes, Blank};
+ghost use Rattle.std.specs.List.{position};
+ghost use Rattle.tree.specs.Tree.{Tree, parent, height, subtree};
+ghost use Rattle.tree.specs.New.{adopt, visit, scan, root_of, shape_of, misdated, dates_of, validated, new_call};
+ghost use Rattle.tree.specs.Given.{scan_of, shaping_of, tree_of, new_given, sizes_fit, Visits, Scans, Inside, is_no_node};
 
 use answer::Refusal;
+use std::marker::Model;
 
-// In order, or why not.
-#[derive(Clone, Copy)]
-pub enum Verdict {
-    Fine,
-    Refused(Refusal),
+// No node: where a tip's children and the root's parent would stand.
+pub const NO_NODE: u16 = 65535;
+
+// The most nodes that a tree has.
+pub const MOST_NODES: usize = 4095;
+
+// A tree as it is lent: node k's children are at 2k and 2k + 1 of the pairs. Its clauses see it as the record of its lists.
+#[derive(Drop)]
+pub struct Tree<'a> {
+    pub pairs: &'a [u16],
+    pub parents: &'a [u16],
+    pub heights: &'a [f64],
+    pub root: usize,
 }
 
-// The root, or why there is none.
-#[derive(Clone, Copy)]
-pub enum Rooted {
-    Root(usize),
-    Refused(Refusal),
+impl<'a> Model for Tree<'a> {
+    ghost Value = { Tree };
+
+    ghost view = { λ t. tree_of t.pairs.now t.parents.now t.heights.now t.root };
+}
+
+impl<'a> Tree<'a> {
+    // The parent of a node.
+    #[tactic(auto, unfolding(crate::specs::Tree::parent))]
+    fn parent(&self, node: usize) -> usize
+        ensures { result ≡ parent self.now node }
+    {
+        self.parents.get(node).map_or(0, |parent| *parent as usize)
+    }
+
+    // The height of a node.
+    #[tactic(auto, using(real::specs::NumberLaws::nan_is), unfolding(crate::specs::Tree::height))]
+    fn height(&self, node: usize) -> f64
+        ensures { result ≡ height self.now node }
+    {
+        self.heights.get(node).copied().unwrap_or(f64::NAN)
+    }
 }
 
 // Makes node the parent of child.
-fn adopt(parents: &mut [u16], node: usize, child: usize) -> Verdict
+#[tactic(auto, using(crate::proofs::ParentLaws::adopt_laws))]
+fn adopt(parents: &mut [u16], node: usize, child: usize) -> Result<(), Refusal>
     requires { node < 65535 }
     ensures { scan_of result parents.new ≡ adopt (length parents.old) node child parents.old }
 {
-    if child < parents.len() {
-        if child == node {
-            return Verdict::Refused(Refusal::Shape(node));
-        }
-        if parents[child] == 65535 {
-            parents[child] = node as u16;
-            return Verdict::Fine;
-        }
-        return Verdict::Refused(Refusal::Shape(child));
+    if parents.len() <= child || child == node {
+        return Err(Refusal::Shape(node));
     }
-    Verdict::Refused(Refusal::Shape(node))
+    if parents[child] != NO_NODE {
+        return Err(Refusal::Shape(child));
+    }
+    parents[child] = node as u16;
+    Ok(())
 }
 
 // Makes node the parent of both its children.
-fn visit(pairs: &[u16], parents: &mut [u16], node: usize) -> Verdict
+#[tactic(auto, using(crate::specs::PlaceLaws::wide16, crate::proofs::ParentLaws::visit_laws))]
+fn visit(pairs: &[u16], parents: &mut [u16], node: usize) -> Result<(), Refusal>
     requires { Visits pairs.now parents.old node }
-    ensures { scan_of result parents.new ≡ visit (length parents.old) pairs.now node (scan_of Fine parents.old) }
+    ensures { scan_of result parents.new ≡ visit (length parents.old) pairs.now node (scan_of (Ok tt) parents.old) }
 {
-    let a = pairs[node + node] as usize;
-    let b = pairs[node + node + 1] as usize;
+    let a = pairs[node + node];
+    let b = pairs[node + node + 1];
     if parents.len() < node + node {
         if a == b {
-            return Verdict::Refused(Refusal::Shape(node));
+            return Err(Refusal::Shape(node));
         }
-        match adopt(parents, node, a) {
-            Verdict::Fine => {
-                return adopt(parents, node, b);
-            }
-            Verdict::Refused(why) => {
-                return Verdict::Refused(why);
-            }
-        }
+        adopt(parents, node, a as usize)?;
+        adopt(parents, node, b as usize)
+    } else if a == NO_NODE && b == NO_NODE {
+        Ok(())
+    } else {
+        Err(Refusal::Shape(node))
     }
-    if a == 65535 {
-        if b == 65535 {
-            return Verdict::Fine;
-        }
-        return Verdict::Refused(Refusal::Shape(node));
-    }
-    Verdict::Refused(Refusal::Shape(node))
 }
 
 // Fills parents, which come as marks alone, from the pairs.
-fn scan(pairs: &[u16], parents: &mut [u16]) -> Verdict
+#[tactic(auto, using(crate::proofs::ParentLaws::scan_laws))]
+fn scan(pairs: &[u16], parents: &mut [u16]) -> Result<(), Refusal>
     requires { Scans pairs.now parents.old }
     ensures { scan_of result parents.new ≡ scan (length parents.old) pairs.now (length parents.old) }
 {
-    let mut node = 0;
-    while node < parents.len() {
-        match visit(pairs, parents, node) {
-            Verdict::Fine => {
-                node += 1;
-            }
-            Verdict::Refused(why) => {
-                return Verdict::Refused(why);
-            }
-        }
+    for node in 0..parents.len() {
+        visit(pairs, parents, node)?;
     }
-    Verdict::Fine
+    Ok(())
+}
+
+// The first node without a parent.
+fn first_root(parents: &[u16]) -> Option<usize>
+    ensures { result ≡ position is_no_node parents.now }
+{
+    parents.iter().position(|parent| *parent == NO_NODE)
 }
 
 // The one node without a parent.
-pub fn root(parents: &[u16]) -> Rooted
+#[tactic(auto, using(crate::proofs::RootLaws::root_laws))]
+pub fn root(parents: &[u16]) -> Result<usize, Refusal>
     ensures { result ≡ root_of parents.now }
 {
-    let mut root = parents.len();
-    let mut node = 0;
-    while node < parents.len() {
-        if parents[node] == 65535 {
-            if root < parents.len() {
-                return Rooted::Refused(Refusal::Disconnected);
-            }
-            root = node;
-        }
-        node += 1;
+    let root = first_root(parents).ok_or(Refusal::Disconnected)?;
+    if parents[root + 1..].contains(&NO_NODE) {
+        Err(Refusal::Disconnected)
+    } else {
+        Ok(root)
     }
-    if root < parents.len() {
-        return Rooted::Root(root);
-    }
-    Rooted::Refused(Refusal::Disconnected)
 }
 
 // What is left of a count when each node of node's subtree has taken one.
+#[tactic(auto, using(crate::proofs::WalkLaws::walk_laws, crate::specs::PlaceLaws::wide16))]
 fn walk(pairs: &[u16], n: usize, node: usize, left: usize, depth: usize) -> usize
     requires { Inside n pairs.now node }
     ensures { result ≡ left - length (subtree depth n pairs.now node) }
 {
-    if depth == 0 {
+    if depth == 0 || left == 0 {
         return left;
-    }
-    if left == 0 {
-        return 0;
     }
     if n < node + node {
         let a = pairs[node + node] as usize;
         let b = pairs[node + node + 1] as usize;
         let rest = walk(pairs, n, a, left - 1, depth - 1);
-        return walk(pairs, n, b, rest, depth - 1);
+        walk(pairs, n, b, rest, depth - 1)
+    } else {
+        left - 1
     }
-    left - 1
 }
 
 // Fills parents, which come as marks alone, and finds the root, whose subtree must have every node.
-fn shape(pairs: &[u16], parents: &mut [u16]) -> Rooted
+#[tactic(auto, using(crate::proofs::CallLaws::shape_laws))]
+fn shape(pairs: &[u16], parents: &mut [u16]) -> Result<usize, Refusal>
     requires { Scans pairs.now parents.old }
     ensures { shaping_of result parents.new ≡ shape_of (length parents.old) pairs.now }
 {
-    match scan(pairs, parents) {
-        Verdict::Fine => {
-            match root(parents) {
-                Rooted::Root(top) => {
-                    let n = parents.len();
-                    if walk(pairs, n, top, n + 1, n) == 1 {
-                        return Rooted::Root(top);
-                    }
-                    return Rooted::Refused(Refusal::Disconnected);
-                }
-                Rooted::Refused(why) => {
-                    return Rooted::Refused(why);
-                }
-            }
-        }
-        Verdict::Refused(why) => {
-            return Rooted::Refused(why);
-        }
+    scan(pairs, parents)?;
+    let top = root(parents)?;
+    let n = parents.len();
+    if walk(pairs, n, top, n + 1, n) == 1 {
+        Ok(top)
+    } else {
+        Err(Refusal::Disconnected)
     }
 }
 
 // Whether a node's height is negative, not finite or above its parent's.
-fn misdated(parents: &[u16], heights: &[f64], root: usize, node: usize) -> bool
-    requires { Dates parents.now heights.now node }
-    ensures { result ≡ misdated (dates_in parents.now heights.now root) node }
+#[tactic(auto, using(real::specs::NumberLaws::finite_is), unfolding(crate::specs::New::misdated))]
+fn misdated(tree: &Tree<'_>, node: usize) -> bool
+    ensures { result ≡ misdated tree.now node }
 {
-    let h = heights[node];
-    if h < 0.0 {
-        return true;
-    }
-    if h < f64::from_bits(0x7ff0_0000_0000_0000) {
-        if node == root {
-            return false;
-        }
-        let p = parents[node] as usize;
-        if p < heights.len() {
-            if h <= heights[p] {
-                return false;
-            }
-            return true;
-        }
-        return true;
-    }
-    true
+    let h = tree.height(node);
+    h < 0.0 || !h.is_finite() || (node != tree.root && !(h <= tree.height(tree.parent(node))))
 }
 
 // The lowest node whose height is at fault.
-fn check_heights(parents: &[u16], heights: &[f64], root: usize) -> Verdict
-    requires { length parents.now ≡ length heights.now }
-    ensures { result ≡ lowest (misdated (dates_in parents.now heights.now root)) Height (length heights.now) }
+#[tactic(auto, using(crate::specs::LowestLaws::lowest_laws))]
+fn check_heights(tree: &Tree<'_>) -> Result<(), Refusal>
+    ensures { result ≡ dates_of tree.now }
 {
-    let mut node = 0;
-    while node < heights.len() {
-        if misdated(parents, heights, root, node) {
-            return Verdict::Refused(Refusal::Height(node));
-        }
-        node += 1;
-    }
-    Verdict::Fine
-}
-
-// Whether two slices of one length agree.
-fn agree(a: &[u16], b: &[u16]) -> bool
-    requires { length a.now ≡ length b.now }
-    ensures { result ≡ agree a.now b.now (length a.now) }
-{
-    let mut i = 0;
-    while i < a.len() {
-        if a[i] == b[i] {
-            i += 1;
-        } else {
-            return false;
+    for node in 0..tree.heights.len() {
+        if misdated(tree, node) {
+            return Err(Refusal::Height(node));
         }
     }
-    true
-}
-
-// The first slice, which is as long, into the second.
-fn copy(from: &[u16], to: &mut [u16])
-    requires { length from.now ≡ length to.old }
-    ensures { to.new ≡ from.now }
-{
-    let mut i = 0;
-    while i < from.len() {
-        to[i] = from[i];
-        i += 1;
-    }
+    Ok(())
 }
 
 // Whether the lengths are those of a tree of n nodes.
+#[tactic(auto, unfolding(crate::specs::Given::sizes_fit))]
 fn sizes_fit(n: usize, pairs: usize, parents: usize, heights: usize) -> bool
     ensures { result ≡ sizes_fit n pairs parents heights }
 {
-    if n < 3 {
-        return false;
-    }
-    if 4095 < n {
-        return false;
-    }
-    if n % 2 == 1 {
-        if pairs == n + n {
-            if heights == n {
-                return parents == n;
-            }
-            return false;
-        }
-        return false;
-    }
-    false
-}
-
-// The mark for the parent of each of the most nodes.
-fn blank() -> [u16; 4095]
-    ensures { Blank result }
-{
-    [65535u16; 4095]
-}
-
-// `new` with a place for the parents, so that the lent ones stay as they are where the tree is refused.
-fn new_in(pairs: &[u16], heights: &[f64], parents: &mut [u16], place: &mut [u16]) -> Rooted
-    requires { Makes pairs.now heights.now parents.old place.old }
-    ensures { new_given result parents.new ≡ new_answered parents.old (new_from pairs.now heights.now (shape_of (length place.old) pairs.now)) }
-{
-    match shape(pairs, place) {
-        Rooted::Root(top) => {
-            match check_heights(place, heights, top) {
-                Verdict::Fine => {
-                    copy(place, parents);
-                    return Rooted::Root(top);
-                }
-                Verdict::Refused(why) => {
-                    return Rooted::Refused(why);
-                }
-            }
-        }
-        Rooted::Refused(why) => {
-            return Rooted::Refused(why);
-        }
-    }
+    3 <= n && n <= MOST_NODES && n % 2 == 1 && pairs == n + n && heights == n && parents == n
 }
 
 // The tree of the pairs and heights: its parents are filled and its root answered, or it is refused and nothing changes.
-pub fn new(pairs: &[u16], heights: &[f64], parents: &mut [u16]) -> Rooted
+pub fn new(pairs: &[u16], heights: &[f64], parents: &mut [u16]) -> Result<usize, Refusal>
     ensures { new_given result parents.new ≡ new_call pairs.now heights.now parents.old }
 {
     let n = pairs.len() / 2;
-    if sizes_fit(n, pairs.len(), parents.len(), heights.len()) {
-        let mut place = blank();
-        return new_in(pairs, heights, parents, &mut place[..n]);
+    if !sizes_fit(n, pairs.len(), parents.len(), heights.len()) {
+        return Err(Refusal::Size(n));
     }
-    Rooted::Refused(Refusal::Size(n))
+    let mut all = [NO_NODE; MOST_NODES];
+    let place = &mut all[..n];
+    let root = shape(pairs, place)?;
+    check_heights(&Tree {
+        pairs,
+        parents: &*place,
+        heights,
+        root,
+    })?;
+    parents.copy_from_slice(place);
+    Ok(root)
 }
 
-// `validate` with a place for the parents that the pairs give.
-fn judge(pairs: &[u16], parents: &[u16], heights: &[f64], root: usize, place: &mut [u16]) -> Verdict
-    requires { Makes pairs.now heights.now parents.now place.old }
-    ensures { result ≡ judged (tree_of pairs.now parents.now heights.now root) (shape_of (length place.old) pairs.now) }
+// Whether the tree is one in order: its slices and its root are those of one.
+pub fn validate(tree: &Tree<'_>) -> Result<(), Refusal>
+    ensures { result ≡ validated tree.now }
 {
-    match shape(pairs, place) {
-        Rooted::Root(top) => {
-            if top == root {
-                if agree(place, parents) {
-                    return check_heights(parents, heights, root);
-                }
-                return Verdict::Refused(Refusal::Disconnected);
-            }
-            return Verdict::Refused(Refusal::Disconnected);
-        }
-        Rooted::Refused(why) => {
-            return Verdict::Refused(why);
-        }
+    let n = tree.pairs.len() / 2;
+    if !sizes_fit(n, tree.pairs.len(), tree.parents.len(), tree.heights.len()) {
+        return Err(Refusal::Size(n));
     }
-}
-
-// Whether the slices and the root are those of one tree in order.
-pub fn validate(pairs: &[u16], parents: &[u16], heights: &[f64], root: usize) -> Verdict
-    ensures { result ≡ validated (tree_of pairs.now parents.now heights.now root) }
-{
-    let n = pairs.len() / 2;
-    if sizes_fit(n, pairs.len(), parents.len(), heights.len()) {
-        let mut place = blank();
-        return judge(pairs, parents, heights, root, &mut place[..n]);
+    let mut all = [NO_NODE; MOST_NODES];
+    let place = &mut all[..n];
+    let root = shape(tree.pairs, place)?;
+    if root != tree.root || *place != *tree.parents {
+        return Err(Refusal::Disconnected);
     }
-    Verdict::Refused(Refusal::Size(n))
+    check_heights(tree)
 }

@@ -2,216 +2,166 @@
 // answered. Assumes nothing.
 #![tactic(auto)]
 
-use clades::{Age, Monophyly};
-use lines::{marks, refused, verdict};
-use nodes::{Node, Pair, Quantity};
+use answer::Refusal;
+use lines::{Marks, Or, Said, Verdict};
 use samples::{F_HEIGHTS, F_PAIRS, F_PARENTS};
 use std::io;
 use std::io::{BufWriter, Write};
+use tree::Tree;
 
-fn node(out: &mut impl Write, name: &str, answer: Node) -> io::Result<()> {
-    write!(out, "{name}: ")?;
-    match answer {
-        Node::Is(k) => write!(out, "{k}")?,
-        Node::Nothing => write!(out, "none")?,
-        Node::Refused(why) => refused(out, why)?,
-    }
-    writeln!(out)
-}
-
-fn children(out: &mut impl Write, name: &str, answer: Pair) -> io::Result<()> {
-    write!(out, "{name}: ")?;
-    match answer {
-        Pair::Of(a, b) => write!(out, "{a} {b}")?,
-        Pair::Tip => write!(out, "a tip")?,
-        Pair::Refused(why) => refused(out, why)?,
-    }
-    writeln!(out)
-}
-
-// A line on a quantity, and whether it is the one that is expected.
-fn quantity(out: &mut impl Write, name: &str, answer: Quantity, expected: f64) -> io::Result<()> {
-    write!(out, "{name}: ")?;
-    match answer {
-        Quantity::Is(x) if x == expected => write!(out, "as expected")?,
-        Quantity::Is(_) => write!(out, "not as expected")?,
-        Quantity::Refused(why) => refused(out, why)?,
-    }
-    writeln!(out)
-}
+const F: Tree<'static> = Tree {
+    pairs: &F_PAIRS,
+    parents: &F_PARENTS,
+    heights: &F_HEIGHTS,
+    root: 4,
+};
 
 fn counts(out: &mut impl Write) -> io::Result<()> {
-    writeln!(
-        out,
-        "F has {} nodes, {} tips",
-        nodes::nodes(&F_PAIRS),
-        nodes::tips(&F_PAIRS)
-    )
+    let nodes = nodes::nodes(&F_PAIRS);
+    let tips = nodes::tips(&F_PAIRS);
+    writeln!(out, "F has {nodes} nodes, {tips} tips")
 }
 
 fn parents(out: &mut impl Write) -> io::Result<()> {
-    node(out, "parent of 1", nodes::parent(&F_PARENTS, 1))?;
-    node(out, "parent of 4", nodes::parent(&F_PARENTS, 4))?;
-    node(out, "parent of 5", nodes::parent(&F_PARENTS, 5))
+    for k in [1, 4, 5] {
+        let parent = nodes::parent(&F_PARENTS, k).map(|k| Or(k, "none"));
+        writeln!(out, "parent of {k}: {}", Said(parent))?;
+    }
+    Ok(())
 }
 
-fn pairs(out: &mut impl Write) -> io::Result<()> {
-    children(out, "children of 4", nodes::children(&F_PAIRS, 4))?;
-    children(out, "children of 2", nodes::children(&F_PAIRS, 2))?;
-    children(out, "children of 5", nodes::children(&F_PAIRS, 5))
+fn children(out: &mut impl Write) -> io::Result<()> {
+    for k in [4, 2, 5] {
+        match nodes::children(&F_PAIRS, k) {
+            Ok(Some((a, b))) => writeln!(out, "children of {k}: {a} {b}")?,
+            Ok(None) => writeln!(out, "children of {k}: a tip")?,
+            Err(why) => writeln!(out, "children of {k}: {}", Said(why))?,
+        }
+    }
+    Ok(())
 }
 
 fn siblings(out: &mut impl Write) -> io::Result<()> {
-    sibling(out, "sibling of 0", 0)?;
-    sibling(out, "sibling of 3", 3)?;
-    sibling(out, "sibling of 4", 4)?;
-    sibling(out, "sibling of 5", 5)
+    for k in [0, 3, 4, 5] {
+        let sibling = nodes::sibling(&F_PAIRS, &F_PARENTS, k).map(|k| Or(k, "none"));
+        writeln!(out, "sibling of {k}: {}", Said(sibling))?;
+    }
+    Ok(())
 }
 
-fn sibling(out: &mut impl Write, name: &str, k: usize) -> io::Result<()> {
-    node(out, name, nodes::sibling(&F_PAIRS, &F_PARENTS, k))
-}
-
-fn branch(out: &mut impl Write, name: &str, k: usize, expected: f64) -> io::Result<()> {
-    quantity(
-        out,
-        name,
-        nodes::branch_length(&F_PARENTS, &F_HEIGHTS, k),
-        expected,
-    )
-}
-
-fn lengths(out: &mut impl Write) -> io::Result<()> {
-    branch(out, "length above 2 is 2", 2, 2.0)?;
-    branch(out, "length above 4 is 0", 4, 0.0)?;
-    branch(out, "length above 5", 5, 0.0)
+// A line on a quantity, and whether it is the one that is expected.
+fn quantity(
+    out: &mut impl Write,
+    name: &str,
+    of: Result<f64, Refusal>,
+    expected: f64,
+) -> io::Result<()> {
+    match of {
+        Ok(x) if x == expected => writeln!(out, "{name}: as expected"),
+        Ok(_) => writeln!(out, "{name}: not as expected"),
+        Err(why) => writeln!(out, "{name}: {}", Said(why)),
+    }
 }
 
 fn quantities(out: &mut impl Write) -> io::Result<()> {
+    for (name, k, expected) in [
+        ("length above 2 is 2", 2, 2.0),
+        ("length above 4 is 0", 4, 0.0),
+        ("length above 5", 5, 0.0),
+    ] {
+        let length = nodes::branch_length(&F_PARENTS, &F_HEIGHTS, k);
+        quantity(out, name, length, expected)?;
+    }
     quantity(out, "height of 3 is 1", nodes::height(&F_HEIGHTS, 3), 1.0)?;
     quantity(out, "height of 5", nodes::height(&F_HEIGHTS, 5), 0.0)?;
-    quantity(
-        out,
-        "all lengths are 5",
-        nodes::tree_length(&F_PARENTS, &F_HEIGHTS),
-        5.0,
-    )
+    let all = nodes::tree_length(&F_PARENTS, &F_HEIGHTS);
+    quantity(out, "all lengths are 5", all, 5.0)
 }
 
-fn accessors(out: &mut impl Write) -> io::Result<()> {
-    counts(out)?;
-    parents(out)?;
-    pairs(out)?;
-    siblings(out)?;
-    lengths(out)?;
-    quantities(out)
-}
-
-// A line on `postorder`: the slice afterwards.
+// A line on `postorder`: the verdict, and the slice afterwards.
 fn ordered(out: &mut impl Write, name: &str, root: usize, order: &mut [u16]) -> io::Result<()> {
-    write!(out, "{name}: ")?;
-    verdict(
-        out,
-        order::postorder(&F_PAIRS, &F_PARENTS, &F_HEIGHTS, root, order),
-    )?;
-    write!(out, ", order")?;
-    marks(out, order)?;
-    writeln!(out)
+    let verdict = order::postorder(&Tree { root, ..F }, order);
+    writeln!(out, "{name}: {}, order{}", Verdict(verdict), Marks(order))
 }
 
 fn orders(out: &mut impl Write) -> io::Result<()> {
-    let mut five = [7u16; 5];
-    ordered(out, "F from another root", 3, &mut five)?;
-    ordered(out, "F in postorder", 4, &mut five)?;
-    let mut four = [7u16; 4];
-    ordered(out, "F in a slice of 4", 4, &mut four)
+    let mut order = [7; 5];
+    ordered(out, "F from another root", 3, &mut order)?;
+    ordered(out, "F in postorder", 4, &mut order)?;
+    ordered(out, "F in a slice of 4", 4, &mut [7; 4])
+}
+
+fn clade_word(is_clade: bool) -> &'static str {
+    if is_clade { "a clade" } else { "no clade" }
 }
 
 // A line on a set of F's tips: whether it is monophyletic, and its clade's age in thousandths.
 fn clade(out: &mut impl Write, name: &str, heights: &[f64], members: &[bool]) -> io::Result<()> {
-    write!(out, "{name}: ")?;
-    match clades::is_monophyletic_in(&F_PAIRS, &F_PARENTS, heights, 4, members) {
-        Monophyly::Is(true) => write!(out, "a clade")?,
-        Monophyly::Is(false) => write!(out, "no clade")?,
-        Monophyly::Refused(why) => refused(out, why)?,
-    }
-    write!(out, ", ")?;
-    match clades::clade_age(&F_PAIRS, &F_PARENTS, heights, 4, members) {
-        Age::Thousandths(count) => write!(out, "{count}")?,
-        Age::Refused(why) => refused(out, why)?,
-    }
-    writeln!(out)
-}
-
-fn all_sets(out: &mut impl Write) -> io::Result<()> {
-    marked(out, "no tips", false, false, false)?;
-    marked(out, "tip 0", true, false, false)?;
-    marked(out, "tip 1", false, true, false)?;
-    marked(out, "tip 2", false, false, true)?;
-    marked(out, "tips 0 and 1", true, true, false)?;
-    marked(out, "tips 0 and 2", true, false, true)?;
-    marked(out, "tips 1 and 2", false, true, true)?;
-    marked(out, "all tips", true, true, true)
-}
-
-fn marked(out: &mut impl Write, name: &str, a: bool, b: bool, c: bool) -> io::Result<()> {
-    clade(out, name, &F_HEIGHTS, &[a, b, c])
-}
-
-// Tip 0, or else tip 2, with tip 0 at the one height and the root at the other.
-fn single(out: &mut impl Write, name: &str, first: bool, low: f64, high: f64) -> io::Result<()> {
-    clade(
-        out,
-        name,
-        &[low, 0.0, 0.0, 1.0, high],
-        &[first, false, !first],
-    )
-}
-
-fn stems(out: &mut impl Write) -> io::Result<()> {
-    single(out, "tip 0 at a half", true, 0.5, 2.0)?;
-    single(out, "tip 0 level with its parent", true, 1.0, 2.0)?;
-    single(
-        out,
-        "tip 0 under a root at 2^43",
-        true,
-        0.0,
-        8796093022208.0,
-    )?;
-    single(
-        out,
-        "tip 2 under a root at 2^43",
-        false,
-        0.0,
-        8796093022208.0,
-    )
-}
-
-// Tips 0 and 1, or all tips, with node 3 at the one height and the root at the other.
-fn cherry(out: &mut impl Write, name: &str, third: bool, low: f64, high: f64) -> io::Result<()> {
-    clade(out, name, &[0.0, 0.0, 0.0, low, high], &[true, true, third])
+    let tree = Tree { heights, ..F };
+    let is_clade = clades::is_monophyletic_in(&tree, members).map(clade_word);
+    let age = clades::clade_age(&tree, members);
+    writeln!(out, "{name}: {}, {}", Said(is_clade), Said(age))
 }
 
 fn sets(out: &mut impl Write) -> io::Result<()> {
-    all_sets(out)?;
-    stems(out)?;
-    clade(out, "two marks", &F_HEIGHTS, &[true, true])?;
-    cherry(out, "tips 0 and 1 at a sixteenth", false, 0.0625, 2.0)?;
-    cherry(
-        out,
-        "tips 0 and 1 below 2^43",
-        false,
-        8796093022207.9990,
-        8796093022208.0,
-    )?;
-    cherry(out, "all tips at 2^43", true, 1.0, 8796093022208.0)?;
-    cherry(out, "tips 0 and 1 of a refused tree", false, 3.0, 2.0)
+    for (name, members) in [
+        ("no tips", [false, false, false]),
+        ("tip 0", [true, false, false]),
+        ("tip 1", [false, true, false]),
+        ("tip 2", [false, false, true]),
+        ("tips 0 and 1", [true, true, false]),
+        ("tips 0 and 2", [true, false, true]),
+        ("tips 1 and 2", [false, true, true]),
+        ("all tips", [true, true, true]),
+    ] {
+        clade(out, name, &F_HEIGHTS, &members)?;
+    }
+    Ok(())
+}
+
+// Tip 0 or tip 2, with tip 0 at the one height and the root at the other.
+fn stems(out: &mut impl Write) -> io::Result<()> {
+    let zero = [true, false, false];
+    let two = [false, false, true];
+    for (name, members, low, high) in [
+        ("tip 0 at a half", zero, 0.5, 2.0),
+        ("tip 0 level with its parent", zero, 1.0, 2.0),
+        ("tip 0 under a root at 2^43", zero, 0.0, 8796093022208.0),
+        ("tip 2 under a root at 2^43", two, 0.0, 8796093022208.0),
+    ] {
+        clade(out, name, &[low, 0.0, 0.0, 1.0, high], &members)?;
+    }
+    clade(out, "two marks", &F_HEIGHTS, &[true, true])
+}
+
+// Tips 0 and 1, or all tips, with node 3 at the one height and the root at the other.
+fn cherries(out: &mut impl Write) -> io::Result<()> {
+    for (name, third, low, high) in [
+        ("tips 0 and 1 at a sixteenth", false, 0.0625, 2.0),
+        (
+            "tips 0 and 1 below 2^43",
+            false,
+            8796093022207.9990,
+            8796093022208.0,
+        ),
+        ("all tips at 2^43", true, 1.0, 8796093022208.0),
+        ("tips 0 and 1 of a refused tree", false, 3.0, 2.0),
+    ] {
+        clade(out, name, &[0.0, 0.0, 0.0, low, high], &[true, true, third])?;
+    }
+    Ok(())
 }
 
 fn main(rt: HostRuntime) -> io::Result<()> {
     let mut out = BufWriter::new(rt.alloc(), io::writer(&rt))?;
-    accessors(&mut out)?;
+    counts(&mut out)?;
+    parents(&mut out)?;
+    children(&mut out)?;
+    siblings(&mut out)?;
+    quantities(&mut out)?;
     orders(&mut out)?;
     sets(&mut out)?;
+    stems(&mut out)?;
+    cherries(&mut out)?;
     out.flush()
 }

@@ -2,12 +2,10 @@
 // Assumes nothing.
 #![tactic(auto)]
 
-use lines::{float, refused};
-use random::{Below, Random};
+use lines::{Bits, Said};
+use random::Random;
 use std::io;
 use std::io::{BufWriter, Write};
-use std::num::wrapping_add_u64;
-use words::rotate_left;
 
 // The first draws from the state 1, 2, 3, 4, by the reference xoshiro256plusplus.c, as the crate rand_xoshiro publishes them.
 const DRAWS: [u64; 10] = [
@@ -89,157 +87,121 @@ const FEW_OUTPUTS: [u64; 5] = [
 // What SplitMix64's state grows by for each output.
 const GAMMA: u64 = 0x9e37_79b9_7f4a_7c15;
 
-// A line on how many of the published numbers were met.
-fn agreed(out: &mut impl Write, name: &str, same: usize, of: usize) -> io::Result<()> {
-    writeln!(out, "{name}: {same} of {of} as published")
+// The output of SplitMix64 at a place of those from a seed. A generator's words are four outputs in a row, and the next four are those of a seed
+// that has grown by four steps.
+fn output(seed: u64, place: usize) -> u64 {
+    let steps = place as u64 / 4 * 4;
+    let words = Random::new(seed.wrapping_add(GAMMA.wrapping_mul(steps))).state();
+    words[place % 4]
 }
 
-// How many of the first draws from a generator are the published ones.
-fn same_draws(start: Random, published: &[u64]) -> usize {
+// A line on how many of the first outputs from a seed are the published ones.
+fn outputs(out: &mut impl Write, seed: u64, published: &[u64]) -> io::Result<()> {
+    let same = published
+        .iter()
+        .enumerate()
+        .filter(|(place, value)| output(seed, *place) == **value)
+        .count();
+    let of = published.len();
+    writeln!(out, "SplitMix64 from {seed}: {same} of {of} as published")
+}
+
+// A line on how many of the first draws are the published ones.
+fn draws(out: &mut impl Write, start: Random) -> io::Result<()> {
     let mut random = start;
-    let mut same: usize = 0;
-    for i in 0..published.len() {
-        let w = random.next_u64();
-        random = w.random;
-        if w.value == published[i] {
-            same += 1;
-        }
-    }
-    same
-}
-
-// How many of the first outputs from a seed are the published ones. A generator's words are four outputs in a row, and the next four are
-// those of a seed that has grown by four steps.
-fn same_outputs(seed: u64, published: &[u64]) -> usize {
-    let mut from = seed;
-    let mut same: usize = 0;
-    for i in 0..published.len() {
-        let words = Random::new(from).state();
-        let place = i % 4;
-        if words[place] == published[i] {
-            same += 1;
-        }
-        if place == 3 {
-            from = four_on(from);
-        }
-    }
-    same
-}
-
-fn four_on(seed: u64) -> u64 {
-    let two = wrapping_add_u64(GAMMA, GAMMA);
-    wrapping_add_u64(seed, wrapping_add_u64(two, two))
-}
-
-fn draws(out: &mut impl Write, name: &str, start: Random, published: &[u64]) -> io::Result<()> {
-    agreed(out, name, same_draws(start, published), published.len())
-}
-
-fn outputs(out: &mut impl Write, name: &str, seed: u64, published: &[u64]) -> io::Result<()> {
-    agreed(out, name, same_outputs(seed, published), published.len())
+    let same = DRAWS
+        .iter()
+        .filter(|value| {
+            let (draw, after) = random.next_u64();
+            random = after;
+            draw == **value
+        })
+        .count();
+    let of = DRAWS.len();
+    writeln!(
+        out,
+        "xoshiro256++ from 1,2,3,4: {same} of {of} as published"
+    )
 }
 
 // The generator whose first draw is w: of its four words only the last is not 0, and a draw of such a generator is that word rotated left by 23.
 fn drawing(w: u64) -> Random {
-    Random::from_state([0, 0, 0, rotate_left(w, 41)])
+    Random::from_state([0, 0, 0, w.rotate_left(41)])
 }
 
-// A line on the uniforms of a numerator below 2^53, by their bits: of the lowest and of the highest draw whose top 53 bits it is.
-fn uniforms(out: &mut impl Write, name: &str, numerator: u64) -> io::Result<()> {
-    write!(out, "uniform of {name}:")?;
-    let lowest = numerator << 11;
-    let low = drawing(lowest).uniform();
-    let high = drawing(lowest + 2047).uniform();
-    float(out, low.value)?;
-    float(out, high.value)?;
-    writeln!(out)
-}
-
-// A line on one call of `below`: the number and the draws made, or the refusal's number and detail.
-fn below(out: &mut impl Write, name: &str, g: Random, n: usize, allowance: u32) -> io::Result<()> {
-    write!(out, "{name}: below {n} by {allowance} is ")?;
-    let d = g.below(n, allowance);
-    let answer = d.answer;
-    match answer {
-        Below::Drawn(value, draws) => write!(out, "{value}, draws {draws}")?,
-        Below::Refused(why) => refused(out, why)?,
+// Numerators below 2^53 at both ends of their range, and where their lower 32 bits end and the top bit begins. A line has the uniforms of the
+// lowest and of the highest draw whose top 53 bits are the numerator.
+fn numerators(out: &mut impl Write) -> io::Result<()> {
+    for (name, numerator) in [
+        ("0", 0),
+        ("1", 1),
+        ("2^32 - 1", 0xffff_ffff),
+        ("2^32", 0x1_0000_0000),
+        ("2^52", 0x10_0000_0000_0000),
+        ("2^53 - 1", 0x1f_ffff_ffff_ffff),
+    ] {
+        let lowest = numerator << 11;
+        let (low, _) = drawing(lowest).uniform();
+        let (high, _) = drawing(lowest | 2047).uniform();
+        writeln!(out, "uniform of {name}: {} {}", Bits(low), Bits(high))?;
     }
-    writeln!(out)
+    Ok(())
 }
 
 // A line on whether something holds.
 fn says(out: &mut impl Write, name: &str, holds: bool) -> io::Result<()> {
-    if holds {
-        writeln!(out, "{name}: yes")
-    } else {
-        writeln!(out, "{name}: no")
-    }
-}
-
-fn published(out: &mut impl Write, counting: Random) -> io::Result<()> {
-    draws(out, "xoshiro256++ from 1,2,3,4", counting, &DRAWS)?;
-    outputs(
-        out,
-        "SplitMix64 from 1477776061723855037",
-        1477776061723855037,
-        &OUTPUTS,
-    )?;
-    outputs(out, "SplitMix64 from 1234567", 1234567, &FEW_OUTPUTS)
+    writeln!(out, "{name}: {}", if holds { "yes" } else { "no" })
 }
 
 fn values(out: &mut impl Write, counting: Random) -> io::Result<()> {
-    let u = counting.uniform();
-    says(
-        out,
-        "uniform from 1,2,3,4 is 5 * 2^-41",
-        u.value == 5.0 / 2199023255552.0,
-    )?;
-    let c = counting.coin();
-    says(out, "coin from 1,2,3,4 is the second side", !c.value)?;
-    let high = Random::from_state([0x8000_0000_0000_0000, 0, 0, 0]);
-    let d = high.coin();
-    says(out, "coin from 2^63,0,0,0 is the first side", d.value)
+    let (u, _) = counting.uniform();
+    let is_exact = u == 5.0 / 2199023255552.0;
+    says(out, "uniform from 1,2,3,4 is 5 * 2^-41", is_exact)?;
+    let (first, _) = counting.coin();
+    says(out, "coin from 1,2,3,4 is the second side", !first)?;
+    let (first, _) = Random::from_state([1 << 63, 0, 0, 0]).coin();
+    says(out, "coin from 2^63,0,0,0 is the first side", first)
 }
 
-// Numerators at both ends of their range, and where their lower 32 bits end and the top bit begins.
-fn numerators(out: &mut impl Write) -> io::Result<()> {
-    uniforms(out, "0", 0)?;
-    uniforms(out, "1", 1)?;
-    uniforms(out, "2^32 - 1", 0xffff_ffff)?;
-    uniforms(out, "2^32", 0x1_0000_0000)?;
-    uniforms(out, "2^52", 0x10_0000_0000_0000)?;
-    uniforms(out, "2^53 - 1", 0x1f_ffff_ffff_ffff)
-}
-
-fn numbers(out: &mut impl Write) -> io::Result<()> {
+// Lines on calls of `below`: the number and the draws made, or the refusal.
+fn numbers(out: &mut impl Write, counting: Random) -> io::Result<()> {
     let zeros = Random::from_state([0, 0, 0, 0]);
-    below(out, "0,0,0,0", zeros, 4, 1)?;
-    below(out, "0,0,0,0", zeros, 3, 1)?;
-    below(out, "0,0,0,0", zeros, 3, 65535)?;
     // The first draw is 0, which 3 passes over, and the second is not.
-    let second = Random::from_state([0, 0x8000_0000_0000_0000, 0, 0]);
-    below(out, "0,2^63,0,0", second, 3, 1)?;
-    below(out, "0,2^63,0,0", second, 3, 2)?;
-    // As rove's own `below` answers.
+    let second = Random::from_state([0, 1 << 63, 0, 0]);
     let seeded = Random::new(1234567);
-    below(out, "seed 1234567", seeded, 4095, 1)?;
-    below(out, "seed 1234567", seeded, 4294967296, 65535)
-}
-
-fn out_of_limits(out: &mut impl Write, counting: Random) -> io::Result<()> {
-    below(out, "1,2,3,4", counting, 0, 1)?;
-    below(out, "1,2,3,4", counting, 4294967297, 1)?;
-    below(out, "1,2,3,4", counting, 3, 0)?;
-    below(out, "1,2,3,4", counting, 3, 65536)
+    for (name, random, n, allowance) in [
+        ("0,0,0,0", zeros, 4, 1),
+        ("0,0,0,0", zeros, 3, 1),
+        ("0,0,0,0", zeros, 3, 65535),
+        ("0,2^63,0,0", second, 3, 1),
+        ("0,2^63,0,0", second, 3, 2),
+        // As rove's own `below` answers.
+        ("seed 1234567", seeded, 4095, 1),
+        ("seed 1234567", seeded, 4294967296, 65535),
+        // Out of the limits.
+        ("1,2,3,4", counting, 0, 1),
+        ("1,2,3,4", counting, 4294967297, 1),
+        ("1,2,3,4", counting, 3, 0),
+        ("1,2,3,4", counting, 3, 65536),
+    ] {
+        write!(out, "{name}: below {n} by {allowance} is ")?;
+        let (answer, _) = random.below(n, allowance);
+        match answer {
+            Ok((value, draws)) => writeln!(out, "{value}, draws {draws}")?,
+            Err(why) => writeln!(out, "{}", Said(why))?,
+        }
+    }
+    Ok(())
 }
 
 fn main(rt: HostRuntime) -> io::Result<()> {
     let mut out = BufWriter::new(rt.alloc(), io::writer(&rt))?;
     let counting = Random::from_state([1, 2, 3, 4]);
-    published(&mut out, counting)?;
+    draws(&mut out, counting)?;
+    outputs(&mut out, 1477776061723855037, &OUTPUTS)?;
+    outputs(&mut out, 1234567, &FEW_OUTPUTS)?;
     values(&mut out, counting)?;
     numerators(&mut out)?;
-    numbers(&mut out)?;
-    out_of_limits(&mut out, counting)?;
+    numbers(&mut out, counting)?;
     out.flush()
 }

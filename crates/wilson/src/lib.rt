@@ -4,7 +4,7 @@
 #![tactic(auto)]
 
 ghost use Rattle.std.specs.Prelude.{◌≡◌, []};
-ghost use Rattle.random.specs.Draw.{pick, run, drawn_number};
+ghost use Rattle.random.specs.Draw.{pick, run, drawn};
 ghost use Rattle.tree.specs.Tree.{nodes_of};
 ghost use Rattle.tree.specs.Valid.{Valid};
 ghost use Rattle.tree.specs.Given.{tree_of, dates_in};
@@ -19,80 +19,53 @@ ghost use Rattle.grafts.specs.Given.{Regrafts};
 ghost use Rattle.wilson.specs.Given.{barred, ranges_of, branch_height, Ranged};
 
 use answer::Ratio;
-use calls::{Answered, Height, Turn, Turned};
-use random::{DrawnNumber, Random, Supply};
-use tree::Verdict;
-
-// The ranges of the new and the old branch, and whether the move is declined.
-#[derive(Clone, Copy)]
-struct Ranges {
-    declined: bool,
-    new: f64,
-    old: f64,
-}
+use calls::{Answered, Turn, Turned};
+use random::{Random, Supply};
+use tree::Tree;
 
 // Whether j is a node onto whose branch i's parent may go: not i, and the root or under a node taller than i.
+#[tactic(auto, unfolding(moves::specs::Programs::hosting, tree::specs::Tree::parent, tree::specs::Tree::height))]
 fn is_host(parents: &[u16], heights: &[f64], root: usize, i: usize, j: usize) -> bool
     ensures { result ≡ hosting (dates_in parents.now heights.now root) i j }
 {
-    if j == i {
-        return false;
-    }
-    if j == root {
-        return true;
-    }
-    reads::height(heights, i) < reads::height(heights, reads::parent(parents, j))
+    j != i
+        && (j == root
+            || reads::height(heights, i) < reads::height(heights, reads::parent(parents, j)))
 }
 
 // One of n such nodes.
-fn host(s: Supply, n: usize, parents: &[u16], heights: &[f64], root: usize, i: usize) -> DrawnNumber
-    ensures { result ≡ drawn_number s (pick (host n (dates_in parents.now heights.now root) i) s) }
+#[tactic(auto, using(crate::proofs::HostLaws::host_laws))]
+fn host(
+    mut s: Supply,
+    n: usize,
+    parents: &[u16],
+    heights: &[f64],
+    root: usize,
+    i: usize,
+) -> Option<(usize, Supply)>
+    ensures { result ≡ drawn (pick (host n (dates_in parents.now heights.now root) i) s) }
 {
-    let mut supply = s;
     loop {
-        let d = supply.below(n);
-        let next = d.supply;
-        if d.ok {
-            if is_host(parents, heights, root, i, d.value) {
-                return DrawnNumber {
-                    ok: true,
-                    value: d.value,
-                    supply: next,
-                };
-            }
-            supply = next;
-        } else {
-            return DrawnNumber {
-                ok: false,
-                value: 0,
-                supply: s,
-            };
+        let (j, next) = s.below(n)?;
+        if is_host(parents, heights, root, i, j) {
+            return Some((j, next));
         }
+        s = next;
     }
 }
 
 // Whether the nodes alone decline the move.
+#[tactic(auto, unfolding(crate::specs::Given::barred, tree::specs::Tree::parent))]
 fn is_barred(parents: &[u16], root: usize, i: usize, j: usize) -> bool
     ensures { result ≡ barred (dates_in parents.now [] root) i j }
 {
-    if j == root {
-        return true;
-    }
     let p = reads::parent(parents, i);
-    if p == root {
-        return true;
-    }
     let q = reads::parent(parents, j);
-    if q == p {
-        return true;
-    }
-    if j == p {
-        return true;
-    }
-    q == i
+    j == root || p == root || q == p || j == p || q == i
 }
 
 // From the taller of i and j up to q.
+#[tactic(auto, unfolding(tree::specs::Tree::height))]
 fn range(heights: &[f64], i: usize, j: usize, q: usize) -> f64
     ensures { result ≡ range (dates_in [] heights.now 0) i j q }
 {
@@ -100,6 +73,7 @@ fn range(heights: &[f64], i: usize, j: usize, q: usize) -> f64
 }
 
 // From the taller of i and j up to j's parent.
+#[tactic(auto, unfolding(rules::specs::Rules::new_range, tree::specs::Tree::parent, tree::specs::Tree::height))]
 fn new_range(parents: &[u16], heights: &[f64], i: usize, j: usize) -> f64
     ensures { result ≡ new_range (dates_in parents.now heights.now 0) i j }
 {
@@ -107,6 +81,7 @@ fn new_range(parents: &[u16], heights: &[f64], i: usize, j: usize) -> f64
 }
 
 // From the taller of i and its sibling up to their parent's parent.
+#[tactic(auto, unfolding(rules::specs::Rules::old_range, tree::specs::Tree::parent, tree::specs::Tree::height, tree::specs::Tree::sibling))]
 fn old_range(pairs: &[u16], parents: &[u16], heights: &[f64], i: usize) -> f64
     ensures { result ≡ old_range (tree_of pairs.now parents.now heights.now 0) i }
 {
@@ -115,7 +90,8 @@ fn old_range(pairs: &[u16], parents: &[u16], heights: &[f64], i: usize) -> f64
     range(heights, i, sibling, reads::parent(parents, p))
 }
 
-// Both ranges, and whether the move is declined.
+// The ranges of the new and the old branch, or none where the move is declined.
+#[tactic(auto, unfolding(crate::specs::Given::barred, rules::specs::Rules::wilson_declines, rules::specs::Rules::new_range, rules::specs::Rules::old_range, tree::specs::Tree::parent, tree::specs::Tree::height, tree::specs::Tree::sibling))]
 fn measure(
     pairs: &[u16],
     parents: &[u16],
@@ -123,34 +99,21 @@ fn measure(
     root: usize,
     i: usize,
     j: usize,
-) -> Ranges
+) -> Option<(f64, f64)>
     ensures { result ≡ ranges_of (tree_of pairs.now parents.now heights.now root) i j }
 {
     let new = new_range(parents, heights, i, j);
     let old = old_range(pairs, parents, heights, i);
-    if is_barred(parents, root, i, j) {
-        return Ranges {
-            declined: true,
-            new,
-            old,
-        };
-    }
-    if new == 0.0 {
-        return Ranges {
-            declined: true,
-            new,
-            old,
-        };
-    }
-    Ranges {
-        declined: old == 0.0,
-        new,
-        old,
+    if is_barred(parents, root, i, j) || new == 0.0 || old == 0.0 {
+        None
+    } else {
+        Some((new, old))
     }
 }
 
 // The height that a uniform takes on j's branch, above i.
-fn height_on(parents: &[u16], heights: &[f64], i: usize, j: usize, u: f64) -> Height
+#[tactic(auto, unfolding(tree::specs::Tree::parent, tree::specs::Tree::height))]
+fn height_on(parents: &[u16], heights: &[f64], i: usize, j: usize, u: f64) -> Option<f64>
     ensures { result ≡ branch_height (dates_in parents.now heights.now 0) i j u }
 {
     let upper = reads::height(heights, reads::parent(parents, j));
@@ -173,29 +136,22 @@ fn wilson_height(
 ) -> Turn
     ensures { Turning (Ranged pairs.old parents.old heights.old root i j new old) (turn_of (tree_of pairs.old parents.old heights.old root) s (run (wilson_height (tree_of pairs.old parents.old heights.old root) i j) supply)) (tree_of pairs.old parents.old heights.old root) supply (after result pairs.new parents.new heights.new) }
 {
-    let d = supply.uniform();
-    let next = d.supply;
-    if d.ok {
-        match height_on(parents, heights, i, j, d.value) {
-            Height::At(x) => {
-                let top = grafts::regraft(pairs, parents, heights, root, i, j, x);
-                return Turn {
-                    turned: Turned::Moved(top, Ratio::Lengths(new, old)),
-                    supply: next,
-                };
-            }
-            Height::Outside => {
-                let p = reads::parent(parents, i);
-                return Turn {
-                    turned: Turned::Outside(p),
-                    supply: next,
-                };
-            }
-        }
-    }
+    let Some((u, next)) = supply.uniform() else {
+        return Turn {
+            turned: Turned::Spent,
+            supply: s,
+        };
+    };
+    let Some(x) = height_on(parents, heights, i, j, u) else {
+        return Turn {
+            turned: Turned::Outside(reads::parent(parents, i)),
+            supply: next,
+        };
+    };
+    let top = grafts::regraft(pairs, parents, heights, root, i, j, x);
     Turn {
-        turned: Turned::Spent,
-        supply: s,
+        turned: Turned::Moved(top, Ratio::Lengths(new, old)),
+        supply: next,
     }
 }
 
@@ -212,16 +168,13 @@ fn wilson_onto(
 ) -> Turn
     ensures { Turning (Regrafts pairs.old parents.old heights.old root i j) (turn_of (tree_of pairs.old parents.old heights.old root) s (run (onto (tree_of pairs.old parents.old heights.old root) i j) supply)) (tree_of pairs.old parents.old heights.old root) supply (after result pairs.new parents.new heights.new) }
 {
-    let ranges = measure(pairs, parents, heights, root, i, j);
-    if ranges.declined {
+    let Some((new, old)) = measure(pairs, parents, heights, root, i, j) else {
         return Turn {
             turned: Turned::Declined,
             supply,
         };
-    }
-    wilson_height(
-        pairs, parents, heights, root, i, j, ranges.new, ranges.old, s, supply,
-    )
+    };
+    wilson_height(pairs, parents, heights, root, i, j, new, old, s, supply)
 }
 
 // A node's parent goes onto another branch, all three drawn: the node, the branch and the height there.
@@ -235,28 +188,23 @@ fn wilson_balding_turn(
     ensures { Turning (Valid (nodes_of pairs.old) (tree_of pairs.old parents.old heights.old root)) (turn_of (tree_of pairs.old parents.old heights.old root) s (run (Programs.wilson_balding (tree_of pairs.old parents.old heights.old root)) s)) (tree_of pairs.old parents.old heights.old root) s (after result pairs.new parents.new heights.new) }
 {
     let n = pairs.len() / 2;
-    let a = calls::non_root(s, n, root);
-    let i = a.value;
-    let between = a.supply;
-    if a.ok {
-        let b = host(between, n, parents, heights, root, i);
-        let j = b.value;
-        let supply = b.supply;
-        if b.ok {
-            return wilson_onto(pairs, parents, heights, root, i, j, s, supply);
-        }
+    let Some((i, between)) = calls::non_root(s, n, root) else {
         return Turn {
             turned: Turned::Spent,
             supply: s,
         };
-    }
-    Turn {
-        turned: Turned::Spent,
-        supply: s,
-    }
+    };
+    let Some((j, supply)) = host(between, n, parents, heights, root, i) else {
+        return Turn {
+            turned: Turned::Spent,
+            supply: s,
+        };
+    };
+    wilson_onto(pairs, parents, heights, root, i, j, s, supply)
 }
 
 // The call, the tree being left unvalidated: the allowance is checked, then the turn is made.
+#[tactic(auto, using(calls::proofs::EntryLaws::unvalidated_laws))]
 pub fn wilson_balding_unvalidated(
     pairs: &mut [u16],
     parents: &mut [u16],
@@ -267,22 +215,19 @@ pub fn wilson_balding_unvalidated(
 ) -> Answered
     ensures { UnvalidatedCall wilson_balding (tree_of pairs.old parents.old heights.old root) random allowance (called result.answer result.random pairs.new parents.new heights.new) }
 {
-    match calls::check_limits(true, allowance) {
-        Verdict::Refused(why) => {
-            return calls::refuse(why, random);
-        }
-        Verdict::Fine => {
-            let s = Supply {
-                random,
-                left: allowance,
-            };
-            let turn = wilson_balding_turn(pairs, parents, heights, root, s);
-            return calls::answer(turn, random, allowance);
-        }
+    if let Err(why) = calls::check_limits(true, allowance) {
+        return calls::refuse(why, random);
     }
+    let s = Supply {
+        random,
+        left: allowance,
+    };
+    let turn = wilson_balding_turn(pairs, parents, heights, root, s);
+    calls::answer(turn, random, allowance)
 }
 
 // The call: the tree is checked first.
+#[tactic(auto, using(calls::proofs::EntryLaws::entry_laws))]
 pub fn wilson_balding(
     pairs: &mut [u16],
     parents: &mut [u16],
@@ -293,12 +238,14 @@ pub fn wilson_balding(
 ) -> Answered
     ensures { called result.answer result.random pairs.new parents.new heights.new ≡ move_call wilson_balding (tree_of pairs.old parents.old heights.old root) random allowance }
 {
-    match quick::validate(pairs, parents, heights, root) {
-        Verdict::Refused(why) => {
-            return calls::refuse(why, random);
-        }
-        Verdict::Fine => {
-            return wilson_balding_unvalidated(pairs, parents, heights, root, random, allowance);
-        }
+    let tree = Tree {
+        pairs: &*pairs,
+        parents: &*parents,
+        heights: &*heights,
+        root,
+    };
+    if let Err(why) = quick::validate(&tree) {
+        return calls::refuse(why, random);
     }
+    wilson_balding_unvalidated(pairs, parents, heights, root, random, allowance)
 }

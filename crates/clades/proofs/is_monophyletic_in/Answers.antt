@@ -1,31 +1,10 @@
 -- `clades::is_monophyletic_in` meets its contract. Assumes nothing.
-use Rattle.clades.proofs.CallLaws.{entry_laws, mono_laws}
-use borrow.Author.Rules.{rules}
+use Rattle.std.proofs.Common.{◌≡◌, ◌+◌, ◌/◌, length, subst}
+use Rattle.tree.specs.Tree.{Tree}
+use Rattle.clades.proofs.CallLaws.{entry-few}
 use Rattle.clades.proofs.is_monophyletic_in.Goals as goal
 
-pub overflow_add-n : goal.overflow_add-n
-overflow_add-n c = search (entry_laws, mono_laws, rules)
-
-pub validate-requires : goal.validate-requires
-validate-requires c = search (entry_laws, mono_laws, rules)
-
-pub enum_told-1 : goal.enum_told-1
-enum_told-1 c = search (entry_laws, mono_laws, rules)
-
 pub size-requires : goal.size-requires
-size-requires c = search (entry_laws, mono_laws, rules)
-
-pub first_node-requires : goal.first_node-requires
-first_node-requires c = search (entry_laws, mono_laws, rules)
-
-pub returns-in-Fine : goal.returns-in-Fine
-returns-in-Fine c = search (entry_laws, mono_laws, rules)
-
-pub enum_known-why : goal.enum_known-why
-enum_known-why c = search (entry_laws, mono_laws, rules)
-
-pub returns-in-Refused : goal.returns-in-Refused
-returns-in-Refused c = search (entry_laws, mono_laws, rules)
-
-pub returns : goal.returns
-returns c = search (entry_laws, mono_laws, rules)
+size-requires c =
+    let m = subst (λ (t : Tree). length c.args.members.now ≡ (length t.pairs / 2 + 1) / 2) c.tree.view_is c.if-members-n.false in
+    entry-few _ _ m _ c.validate.ensures c.in_ok-validate.was

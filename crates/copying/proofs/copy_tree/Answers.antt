@@ -1,13 +1,10 @@
--- `copying::copy_tree` meets its contract. Assumes nothing.
-use borrow.Author.Rules.{rules}
-use Rattle.copying.proofs.TreeLaws.{tree_laws}
+-- `copying::copy_tree` meets its contract, by what `tree::new` said. Assumes nothing.
+use Rattle.accepted.specs.NewLaws.{new-made}
+use Rattle.copying.proofs.TreeLaws.{tree-refused}
 use Rattle.copying.proofs.copy_tree.Goals as goal
 
-pub returns-in-Refused : goal.returns-in-Refused
-returns-in-Refused c = search (tree_laws, rules)
-
 pub copy_accepted-requires : goal.copy_accepted-requires
-copy_accepted-requires c = search (tree_laws, rules)
+copy_accepted-requires c = new-made _ _ _ _ c.requires _ c.new.ensures c.in-Ok.root c.in-Ok.is
 
-pub returns-in-Root : goal.returns-in-Root
-returns-in-Root c = search (tree_laws, rules)
+pub returns-in-Err : goal.returns-in-Err
+returns-in-Err c = tree-refused _ _ _ _ c.requires _ c.new.ensures _ _ c.in-Err.why c.in-Err.is c.put_refusal.ensures

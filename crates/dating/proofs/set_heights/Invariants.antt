@@ -1,7 +1,6 @@
 -- `dating::set_heights` meets its contract. Assumes nothing.
 use mathlib.Core.Path.{◌≡◌}
 use mathlib.Core.List.{[]}
-use Prim.Native.Nat.{◌-◌, ◌≤◌}
 use lib.ListN.{length}
 use Rattle.tree.specs.Given.{kin_in}
 use Rattle.dating.specs.Initialize.{initial_to}
@@ -9,7 +8,4 @@ use Rattle.dating.specs.Given.{start_with}
 use Rattle.dating.proofs.set_heights.Given as goal
 
 abbrev pub invariant-loop-k : goal.invariant-loop-k
-invariant-loop-k l = (l.k ≤ length l.initial.heights) × (length l.heights ≡ length l.initial.heights) × (l.heights ≡ initial_to (start_with (length l.initial.heights) l.minima l.maxima l.old l.factor) (kin_in [] l.initial.heights) l.k)
-
-abbrev pub decreases-loop-k : goal.decreases-loop-k
-decreases-loop-k l = length l.initial.heights - l.k
+invariant-loop-k l = l.heights ≡ initial_to (start_with (length l.initial.heights) l.minima l.maxima l.old l.factor) (kin_in [] l.initial.heights) l.k

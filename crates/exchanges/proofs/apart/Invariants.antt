@@ -4,8 +4,8 @@ use Rattle.random.specs.Draw.{pick}
 use Rattle.moves.specs.Programs.{apart}
 use Rattle.exchanges.proofs.apart.Given as goal
 
-abbrev pub invariant-loop-d : goal.invariant-loop-d
-invariant-loop-d l = pick (apart l.n l.root l.i) l.s ≡ pick (apart l.n l.root l.i) l.supply
+abbrev pub invariant-loop-k : goal.invariant-loop-k
+invariant-loop-k l = pick (apart l.n l.root l.i) l.fn.s ≡ pick (apart l.n l.root l.i) l.s
 
-abbrev pub decreases-loop-d : goal.decreases-loop-d
-decreases-loop-d l = l.supply.left
+abbrev pub decreases-loop-k : goal.decreases-loop-k
+decreases-loop-k l = l.s.left

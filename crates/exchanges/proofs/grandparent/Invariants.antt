@@ -5,8 +5,8 @@ use Rattle.exchanges.specs.Given.{pairs_in}
 use Rattle.moves.specs.Programs.{grandparent}
 use Rattle.exchanges.proofs.grandparent.Given as goal
 
-abbrev pub invariant-loop-s : goal.invariant-loop-s
-invariant-loop-s l = pick (grandparent l.n (pairs_in l.pairs)) l.s ≡ pick (grandparent l.n (pairs_in l.pairs)) l.supply
+abbrev pub invariant-loop-k : goal.invariant-loop-k
+invariant-loop-k l = pick (grandparent l.n (pairs_in l.pairs)) l.fn.s ≡ pick (grandparent l.n (pairs_in l.pairs)) l.s
 
-abbrev pub decreases-loop-s : goal.decreases-loop-s
-decreases-loop-s l = l.supply.left
+abbrev pub decreases-loop-k : goal.decreases-loop-k
+decreases-loop-k l = l.s.left

@@ -1,38 +1,21 @@
 -- `exchanges::wide_exchange_turn` meets its contract. Assumes nothing.
 use borrow.Author.Rules.{rules}
-use Rattle.calls.proofs.HarmlessLaws.{mild_laws}
-use Rattle.exchanges.proofs.WideLaws.{wide_laws}
+use Rattle.exchanges.proofs.MildLaws.{exchange_mild_laws}
+use Rattle.exchanges.proofs.WideLaws.{wide_laws, wide-moved}
 use Rattle.exchanges.proofs.wide_exchange_turn.Goals as goal
 
-pub non_root-i-requires : goal.non_root-i-requires
-non_root-i-requires c = search (wide_laws, rules)
+pub returns-in_default : goal.returns-in_default
+returns-in_default c = record { decided = λ v. search (wide_laws, rules); mild = search (exchange_mild_laws, rules) }
 
-pub apart-j-requires : goal.apart-j-requires
-apart-j-requires c = search (wide_laws, rules)
-
-pub wide_declines-requires : goal.wide_declines-requires
-wide_declines-requires c = search (wide_laws, rules)
-
-pub shape_of-parents-then-wide_declines : goal.shape_of-parents-then-wide_declines
-shape_of-parents-then-wide_declines c = search (wide_laws, rules)
+pub returns-in_default-apart : goal.returns-in_default-apart
+returns-in_default-apart c = record { decided = λ v. search (wide_laws, rules); mild = search (exchange_mild_laws, rules) }
 
 pub returns-then-wide_declines : goal.returns-then-wide_declines
-returns-then-wide_declines c = record { decided = λ v. search (wide_laws, rules); mild = search (mild_laws, rules) }
-
-pub exchange-top-requires : goal.exchange-top-requires
-exchange-top-requires c = search (wide_laws, rules)
-
-pub shape_of-pairs-then-j : goal.shape_of-pairs-then-j
-shape_of-pairs-then-j c = search (wide_laws, rules)
-
-pub shape_of-parents-then-j : goal.shape_of-parents-then-j
-shape_of-parents-then-j c = search (wide_laws, rules)
-
-pub returns-then-j : goal.returns-then-j
-returns-then-j c = record { decided = λ v. search (wide_laws, rules); mild = search (mild_laws, rules) }
-
-pub returns-then-i : goal.returns-then-i
-returns-then-i c = record { decided = λ v. search (wide_laws, rules); mild = search (mild_laws, rules) }
+returns-then-wide_declines c = record { decided = λ v. search (wide_laws, rules); mild = search (exchange_mild_laws, rules) }
 
 pub returns : goal.returns
-returns c = record { decided = λ v. search (wide_laws, rules); mild = search (mild_laws, rules) }
+returns c =
+    record {
+      decided = λ v. wide-moved _ _ _ _ _ _ _ c.in-Some.ensures _ _ c.in-Some-apart.ensures _ c.wide_declines.ensures c.if-wide_declines.false v _ _ _ c.exchange-top.ensures;
+      mild = search (exchange_mild_laws, rules);
+    }

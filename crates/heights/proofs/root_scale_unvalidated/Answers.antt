@@ -3,32 +3,8 @@ use borrow.Author.Rules.{rules}
 use Rattle.calls.proofs.EntryLaws.{unvalidated_laws}
 use Rattle.heights.proofs.root_scale_unvalidated.Goals as goal
 
-pub is_tuned-limits-requires : goal.is_tuned-limits-requires
-is_tuned-limits-requires c = search (unvalidated_laws, rules)
+pub returns-in-Err : goal.returns-in-Err
+returns-in-Err c = search (unvalidated_laws, rules)
 
-pub check_limits-requires : goal.check_limits-requires
-check_limits-requires c = search (unvalidated_laws, rules)
-
-pub enum_known-why : goal.enum_known-why
-enum_known-why c = search (unvalidated_laws, rules)
-
-pub refuse-requires : goal.refuse-requires
-refuse-requires c = search (unvalidated_laws, rules)
-
-pub returns-in-Refused : goal.returns-in-Refused
-returns-in-Refused c = search (unvalidated_laws, rules)
-
-pub enum_told-1 : goal.enum_told-1
-enum_told-1 c = search (unvalidated_laws, rules)
-
-pub root_scale_turn-turn-requires : goal.root_scale_turn-turn-requires
-root_scale_turn-turn-requires c = search (unvalidated_laws, rules)
-
-pub answer-requires : goal.answer-requires
-answer-requires c = search (unvalidated_laws, rules)
-
-pub shape_of-heights-in-Fine : goal.shape_of-heights-in-Fine
-shape_of-heights-in-Fine c = search (unvalidated_laws, rules)
-
-pub returns-in-Fine : goal.returns-in-Fine
-returns-in-Fine c = search (unvalidated_laws, rules)
+pub returns : goal.returns
+returns c = search (unvalidated_laws, rules)

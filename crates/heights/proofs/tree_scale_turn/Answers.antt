@@ -1,44 +1,28 @@
 -- `heights::tree_scale_turn` meets its contract. Assumes nothing.
 use borrow.Author.Rules.{rules}
-use Rattle.heights.proofs.MildLaws.{heights_mild_laws}
-use Rattle.heights.proofs.TreeScaleLaws.{tree_scale_laws}
+use Rattle.heights.proofs.MildLaws.{heights_mild_laws, scaled-mild}
+use Rattle.random.specs.Draw.{uniform}
+use Rattle.calls.proofs.HarmlessLaws.{program-stepped}
+use Rattle.random.proofs.DrawLaws.{stepped-refl}
+use Rattle.heights.proofs.TreeScaleLaws.{tree_scale_laws, tree-not-finite}
 use Rattle.heights.proofs.tree_scale_turn.Goals as goal
 
-pub uniform-u-requires : goal.uniform-u-requires
-uniform-u-requires c = search (tree_scale_laws, rules)
+pub returns-in_default : goal.returns-in_default
+returns-in_default c = record { decided = λ v. search (tree_scale_laws, rules); mild = search (heights_mild_laws, rules) }
 
-pub is_scalable-requires : goal.is_scalable-requires
-is_scalable-requires c = search (tree_scale_laws, rules)
-
-pub scaler-f-requires : goal.scaler-f-requires
-scaler-f-requires c = search (tree_scale_laws, rules)
-
-pub offset_bounds-heights-root : goal.offset_bounds-heights-root
-offset_bounds-heights-root c = search (tree_scale_laws, rules)
-
-pub bounds-heights-root : goal.bounds-heights-root
-bounds-heights-root c = search (tree_scale_laws, rules)
-
-pub is_finite-requires : goal.is_finite-requires
-is_finite-requires c = search (tree_scale_laws, rules)
-
-pub tree_scale_ratio-ratio-requires : goal.tree_scale_ratio-ratio-requires
-tree_scale_ratio-ratio-requires c = search (tree_scale_laws, rules)
+pub returns-then-not-is_scalable : goal.returns-then-not-is_scalable
+returns-then-not-is_scalable c = record { decided = λ v. search (tree_scale_laws, rules); mild = search (heights_mild_laws, rules) }
 
 pub returns-then-is_finite : goal.returns-then-is_finite
-returns-then-is_finite c = record { decided = λ v. search (tree_scale_laws, rules); mild = search (heights_mild_laws, rules) }
+returns-then-is_finite c =
+    record {
+      decided = λ v. search (tree_scale_laws, rules);
+      mild = scaled-mild _ _ _ _ _ _ (program-stepped _ _ (stepped-refl _) uniform _ _ c.in-Some.ensures) _;
+    }
 
-pub lowest_overflow-requires : goal.lowest_overflow-requires
-lowest_overflow-requires c = search (tree_scale_laws, rules)
-
-pub returns-then-is_scalable : goal.returns-then-is_scalable
-returns-then-is_scalable c = record { decided = λ v. search (tree_scale_laws, rules); mild = search (heights_mild_laws, rules) }
-
-pub stay-requires : goal.stay-requires
-stay-requires c = search (tree_scale_laws, rules)
-
-pub returns-then-u : goal.returns-then-u
-returns-then-u c = record { decided = λ v. search (tree_scale_laws, rules); mild = search (heights_mild_laws, rules) }
-
-pub returns : goal.returns
-returns c = record { decided = λ v. search (tree_scale_laws, rules); mild = search (heights_mild_laws, rules) }
+pub returns-else-is_finite : goal.returns-else-is_finite
+returns-else-is_finite c =
+    record {
+      decided = λ v. tree-not-finite _ _ _ _ _ _ v _ _ c.in-Some.ensures _ c.scaler-f.ensures _ c.is_finite.ensures c.if-is_finite.false _ c.lowest_overflow.ensures;
+      mild = search (heights_mild_laws, rules);
+    }

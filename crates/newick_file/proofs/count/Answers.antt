@@ -1,14 +1,13 @@
 -- `newick_file::count` meets its contract. Assumes nothing.
-use Prim.Native.Nat.{◌-◌}
-use borrow.Author.Rules.{rules}
-use Rattle.newick_file.proofs.PassLaws.{count_laws}
+use Rattle.std.proofs.Common.{◌∙◌}
+use Rattle.newick_file.proofs.PassLaws.{close-byte, counted_next, counted-few, counted-end}
 use Rattle.newick_file.proofs.count.Goals as goal
 
-pub loop-i-init : goal.loop-i-init
-loop-i-init c = search (count_laws, rules)
-
-pub loop-i-preserved : goal.loop-i-preserved
-loop-i-preserved c = search (count_laws, rules)
+pub loop-b-preserved : goal.loop-b-preserved
+loop-b-preserved c =
+    let h = c.loop-b.invariant in
+    rw (c.from-n.ensures ∙ close-byte _)
+    (record { few = counted-few _ _ _ h.few h.rest; rest = counted_next _ _ _ h.few h.rest c.loop-b-test.true })
 
 pub returns : goal.returns
-returns c = search (count_laws, rules)
+returns c = let h = c.loop-b.invariant in counted-end _ _ _ h.few h.rest c.loop-b-test.false

@@ -1,11 +1,7 @@
 -- `newick_file::count` meets its contract. Assumes nothing.
-use Prim.Native.Nat.{◌-◌}
-use lib.ListN.{length}
-use Rattle.newick_file.specs.Passes.{Counted}
+use Rattle.std.proofs.Common.{◌≡◌, ◌+◌, ◌≤◌, drop}
+use Rattle.newick_file.specs.Filing.{closes}
 use Rattle.newick_file.proofs.count.Given as goal
 
-abbrev pub invariant-loop-i : goal.invariant-loop-i
-invariant-loop-i l = Counted l.text l.i l.n
-
-abbrev pub decreases-loop-i : goal.decreases-loop-i
-decreases-loop-i l = length l.text - l.i
+abbrev pub invariant-loop-b : goal.invariant-loop-b
+invariant-loop-b l = record { few : l.n ≤ l.b-index; rest : l.n + closes (drop l.b-index l.text) ≡ closes l.text }

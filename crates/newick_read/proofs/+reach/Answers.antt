@@ -1,14 +1,10 @@
--- `newick_read::reach` meets its contract: the depth falls. Assumes nothing.
-use Rattle.newick_read.proofs.NodeLaws.{down_laws}
-use borrow.Author.Rules.{rules}
-use Prim.Native.Nat.{ℕ, ◌<◌}
+-- `newick_read::reach` meets its contract. Assumes nothing.
+use Rattle.newick_read.proofs.NodeLaws.{reach-none, reach-tip}
 use Rattle.newick_read.proofs.+reach.Goals as goal
+use Rattle.newick_read.proofs.+reach.Goals.{then-depth-eq0-via-then-depth-eq0, then-depth-eq0-via-else-depth-eq0+then-node-tips}
 
 pub returns-then-depth-eq0 : goal.returns-then-depth-eq0
-returns-then-depth-eq0 t c = search (down_laws, rules)
-
-pub returns-then-node-tips : goal.returns-then-node-tips
-returns-then-node-tips t c = search (down_laws, rules)
-
-pub returns : goal.returns
-returns t c = search (down_laws, rules)
+returns-then-depth-eq0 t c = elim c.then-depth-eq0.branch [
+  | then-depth-eq0-via-then-depth-eq0 w ↦ reach-none _ _ _ _ _ w.if-depth-eq0.true
+  | then-depth-eq0-via-else-depth-eq0+then-node-tips w ↦ reach-tip _ _ _ _ _ w.if-depth-eq0.false w.if-node-tips.true
+]

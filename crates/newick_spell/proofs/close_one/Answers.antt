@@ -1,22 +1,16 @@
 -- `newick_spell::close_one` meets its contract. Assumes nothing.
+use Rattle.std.proofs.Common.{rules}
 use Rattle.newick_spell.proofs.PassLaws.{close_laws}
-use borrow.Author.Rules.{rules}
 use Rattle.newick_spell.proofs.close_one.Goals as goal
 
-pub overflow_sub-outer : goal.overflow_sub-outer
-overflow_sub-outer c = search (close_laws, rules)
+pub returns-then-not-is_sign : goal.returns-then-not-is_sign
+returns-then-not-is_sign c = search (close_laws, rules)
 
 pub returns-then-outer-eq0 : goal.returns-then-outer-eq0
 returns-then-outer-eq0 c = search (close_laws, rules)
 
-pub side_around-around-requires : goal.side_around-around-requires
-side_around-around-requires c = search (close_laws, rules)
+pub returns-in-Ok : goal.returns-in-Ok
+returns-in-Ok c = search (close_laws, rules)
 
-pub returns-in-To : goal.returns-in-To
-returns-in-To c = search (close_laws, rules)
-
-pub returns-in-Not : goal.returns-in-Not
-returns-in-Not c = search (close_laws, rules)
-
-pub returns : goal.returns
-returns c = search (close_laws, rules)
+pub returns-in-Err : goal.returns-in-Err
+returns-in-Err c = search (close_laws, rules)

@@ -1,13 +1,10 @@
 -- `newick_spell::pass_subtree` meets its contract. Assumes nothing.
+use Rattle.std.proofs.Common.{rules}
 use Rattle.newick_spell.proofs.PassLaws.{pass_laws}
-use borrow.Author.Rules.{rules}
 use Rattle.newick_spell.proofs.pass_subtree.Goals as goal
 
-pub close_all-requires : goal.close_all-requires
-close_all-requires c = search (pass_laws, rules)
+pub returns-in-Ok : goal.returns-in-Ok
+returns-in-Ok c = search (pass_laws, rules)
 
-pub returns-in-To : goal.returns-in-To
-returns-in-To c = search (pass_laws, rules)
-
-pub returns-in-Not : goal.returns-in-Not
-returns-in-Not c = search (pass_laws, rules)
+pub returns-in-Err : goal.returns-in-Err
+returns-in-Err c = search (pass_laws, rules)

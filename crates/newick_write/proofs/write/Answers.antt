@@ -1,25 +1,9 @@
 -- `newick_write::write` meets its contract. Assumes nothing.
-use borrow.Author.Rules.{rules}
-use Rattle.newick_write.proofs.WriteLaws.{write_laws}
+use Rattle.std.proofs.lemmas.Result.{err_from_is_err_and}
+use Rattle.newick_write.proofs.WriteLaws.{write-refused}
 use Rattle.newick_write.proofs.write.Goals as goal
 
-pub validate-requires : goal.validate-requires
-validate-requires c = search (write_laws, rules)
-
-pub enum_told-1 : goal.enum_told-1
-enum_told-1 c = search (write_laws, rules)
-
-pub write_valid-requires : goal.write_valid-requires
-write_valid-requires c = search (write_laws, rules)
-
-pub shape_of-out-in-Fine : goal.shape_of-out-in-Fine
-shape_of-out-in-Fine c = search (write_laws, rules)
-
-pub returns-in-Fine : goal.returns-in-Fine
-returns-in-Fine c = search (write_laws, rules)
-
-pub enum_known-why : goal.enum_known-why
-enum_known-why c = search (write_laws, rules)
-
-pub returns-in-Refused : goal.returns-in-Refused
-returns-in-Refused c = search (write_laws, rules)
+pub returns-in_err-validate : goal.returns-in_err-validate
+returns-in_err-validate c =
+    let p = err_from_is_err_and c.from_residual.result c.from_residual.ensures.1 in
+    rw (p.1, p.2) (write-refused _ _ _ _ _ _ c.validate.ensures _ c.in_err-validate.was)

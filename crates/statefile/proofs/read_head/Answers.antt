@@ -1,19 +1,14 @@
 -- `statefile::read_head` meets its contract. Assumes nothing.
-use Rattle.statefile.proofs.HeadLaws.{head_laws}
-use borrow.Author.Rules.{rules}
+use Rattle.std.proofs.lemmas.Result.{err_from_is_err_and}
+use Rattle.statefile.proofs.HeadLaws.{head-supplied, head-asked}
 use Rattle.statefile.proofs.read_head.Goals as goal
 
-pub returns-in_default : goal.returns-in_default
-returns-in_default c = search (head_laws, rules)
+pub returns-in_err-supplied : goal.returns-in_err-supplied
+returns-in_err-supplied c =
+    let p = err_from_is_err_and c.from_residual.result c.from_residual.ensures.1 in
+    rw (p.1, p.2) (head-supplied _ _ c.read_supplied.ensures _ c.in_err-supplied.was)
 
-pub overflow_cast-tips : goal.overflow_cast-tips
-overflow_cast-tips c = search (head_laws, rules)
-
-pub returns-in-Read-read_asked : goal.returns-in-Read-read_asked
-returns-in-Read-read_asked c = search (head_laws, rules)
-
-pub returns-in-Wrong-read_asked : goal.returns-in-Wrong-read_asked
-returns-in-Wrong-read_asked c = search (head_laws, rules)
-
-pub returns-in-Wrong : goal.returns-in-Wrong
-returns-in-Wrong c = search (head_laws, rules)
+pub returns-in_err-asked : goal.returns-in_err-asked
+returns-in_err-asked c =
+    let p = err_from_is_err_and c.from_residual-in_err-asked.result c.from_residual-in_err-asked.ensures.1 in
+    rw (p.1, p.2) (head-asked _ _ c.read_supplied.ensures _ _ _ c.in_ok-supplied.was c.read_asked.ensures _ c.in_err-asked.was)

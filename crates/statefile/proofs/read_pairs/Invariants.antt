@@ -1,10 +1,6 @@
 -- `statefile::read_pairs` meets its contract. Assumes nothing.
-use Prim.Native.Nat.{◌-◌}
 use Rattle.statefile.proofs.FillLaws.{PairsFilling}
 use Rattle.statefile.proofs.read_pairs.Given as goal
 
 abbrev pub invariant-loop-k : goal.invariant-loop-k
 invariant-loop-k l = PairsFilling l.count l.line l.at l.s l.from l.initial.out l.k l.j l.out
-
-abbrev pub decreases-loop-k : goal.decreases-loop-k
-decreases-loop-k l = l.count - l.k

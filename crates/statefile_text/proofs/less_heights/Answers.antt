@@ -1,16 +1,6 @@
 -- `statefile_text::less_heights` meets its contract. Assumes nothing.
-use Rattle.statefile_text.proofs.RoomLaws.{heights_laws}
-use borrow.Author.Rules.{rules}
+use Rattle.statefile_text.proofs.RoomLaws.{heights-left}
 use Rattle.statefile_text.proofs.less_heights.Goals as goal
 
-pub returns-then-room-heights : goal.returns-then-room-heights
-returns-then-room-heights c = search (heights_laws, rules)
-
-pub overflow_mul-result : goal.overflow_mul-result
-overflow_mul-result c = search (heights_laws, rules)
-
-pub overflow_sub-result : goal.overflow_sub-result
-overflow_sub-result c = search (heights_laws, rules)
-
 pub returns : goal.returns
-returns c = search (heights_laws, rules)
+returns c = let h = c.saturating_mul.ensures in heights-left _ c.args.heights.now c.ranges.room.fits _ _ c.saturating_mul.ensures c.saturating_sub.ensures

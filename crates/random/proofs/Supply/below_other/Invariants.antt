@@ -4,7 +4,4 @@ use Rattle.random.specs.Draw.{below_other, pick, supply_of}
 use Rattle.random.proofs.Supply.below_other.Given as goal
 
 abbrev pub invariant-loop-left : goal.invariant-loop-left
-invariant-loop-left l = pick (below_other l.n l.base l.other) l.self ≡ pick (below_other l.n l.base l.other) (supply_of l.random l.left)
-
-abbrev pub decreases-loop-left : goal.decreases-loop-left
-decreases-loop-left l = l.left
+invariant-loop-left l = pick (below_other l.n l.base l.other) l.fn.self ≡ pick (below_other l.n l.base l.other) (supply_of l.random l.left)

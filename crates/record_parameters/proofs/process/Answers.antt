@@ -1,7 +1,0 @@
--- `record_parameters::process` meets its contract. Assumes nothing.
-use borrow.Author.Rules.{rules}
-use Rattle.record_parameters.proofs.ReadLaws.{read_laws}
-use Rattle.record_parameters.proofs.process.Goals as goal
-
-pub returns : goal.returns
-returns c = search (read_laws, rules)
