@@ -7,7 +7,7 @@ use std::io;
 use std::io::{BufWriter, Read, Write};
 
 // How many bytes of the input are looked at. No line of it is longer.
-const LONGEST: u64 = 131072;
+const LONGEST: usize = 131072;
 
 // No node: twice for a tip's children.
 const NONE: u16 = 65535;
@@ -54,8 +54,8 @@ fn answer_lines(out: &mut impl Write, input: &[u8]) -> io::Result<()> {
 
 fn main(rt: HostRuntime) -> io::Result<()> {
     let mut out = BufWriter::new(rt.alloc(), io::writer(&rt))?;
-    let mut input = Vec::new(rt.alloc());
-    rt.reader().take(LONGEST).read_to_end(&mut input)?;
+    let mut input = Vec::with_capacity(rt.alloc(), LONGEST)?;
+    rt.reader().take(LONGEST as u64).read_to_end(&mut input)?;
     answer_lines(&mut out, &input)?;
     out.flush()
 }

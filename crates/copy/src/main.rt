@@ -12,10 +12,10 @@ const LONGEST: usize = 131072;
 const LONGEST_COPY: usize = 86916;
 
 fn main(rt: HostRuntime) -> io::Result<()> {
-    let mut file = Vec::new(rt.alloc());
     // One byte more, by which a longer file is told.
-    rt.reader().take(LONGEST as u64 + 1).read_to_end(&mut file)?;
+    let mut file = Vec::with_capacity(rt.alloc(), LONGEST + 1)?;
     let mut copy = vec![in rt.alloc(); 0; LONGEST_COPY]?;
+    rt.reader().take(LONGEST as u64 + 1).read_to_end(&mut file)?;
     let length = copying::copy(&file, LONGEST, &mut copy);
     rt.write_all(&copy[..length.min(copy.len())])
 }

@@ -11,10 +11,10 @@ const LONGEST: usize = 65536;
 const LONGEST_ANSWER: usize = 65600;
 
 fn main(rt: HostRuntime) -> io::Result<()> {
-    let mut file = Vec::new(rt.alloc());
     // One byte more, by which a longer file is told.
-    rt.reader().take(LONGEST as u64 + 1).read_to_end(&mut file)?;
+    let mut file = Vec::with_capacity(rt.alloc(), LONGEST + 1)?;
     let mut answer = vec![in rt.alloc(); 0; LONGEST_ANSWER]?;
+    rt.reader().take(LONGEST as u64 + 1).read_to_end(&mut file)?;
     let length = respond::respond(&file, LONGEST, &mut answer);
     rt.write_all(&answer[..length.min(answer.len())])
 }

@@ -13,7 +13,6 @@ use samples::{
 use scales::Scaled;
 use speciation::Speciation::{BirthDeath, Yule};
 use speciation::{Density, Speciation};
-use std::alloc::Global;
 use std::fmt::Display;
 use std::io::{BufWriter, Write};
 use std::{fmt, io};
@@ -509,7 +508,7 @@ const BRANCH_RATES: [(Option<f64>, &[f64], Limits); 16] = [
     (Some(1.0), &[3.0, 2.0, 0.5], Limits(0.5, ZEROS, 9)),
 ];
 
-fn branch_scales(out: &mut impl Write, alloc: Global) -> io::Result<()> {
+fn branch_scales(out: &mut impl Write) -> io::Result<()> {
     for (sigma, from, limits) in BRANCH_RATES {
         write!(
             out,
@@ -517,20 +516,19 @@ fn branch_scales(out: &mut impl Write, alloc: Global) -> io::Result<()> {
             optional(sigma),
             Floats(from)
         )?;
-        let mut rates = from.to_vec(alloc)?;
+        // Room for the rates of any row.
+        let mut places = [0.0; 4];
+        for (place, rate) in places.iter_mut().zip(from) {
+            *place = *rate;
+        }
+        let rates = &mut places[..from.len().min(4)];
         let Limits(tuning, random, allowance) = limits;
-        let scaled = clocks::branch_rate_scale(
-            sigma,
-            &mut rates,
-            tuning,
-            random.random(),
-            allowance,
-        );
+        let scaled = clocks::branch_rate_scale(sigma, rates, tuning, random.random(), allowance);
         writeln!(
             out,
             "{} rates{} state {}",
             Said(scaled.proposal),
-            Floats(&rates),
+            Floats(rates),
             Words(scaled.random.state())
         )?;
     }
@@ -551,6 +549,6 @@ fn main(rt: HostRuntime) -> io::Result<()> {
     birth_rates(&mut out)?;
     relative_deaths(&mut out)?;
     clock_sigmas(&mut out)?;
-    branch_scales(&mut out, rt.alloc())?;
+    branch_scales(&mut out)?;
     out.flush()
 }

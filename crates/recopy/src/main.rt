@@ -8,7 +8,7 @@ use std::io;
 use std::io::{BufWriter, Read, Write};
 
 // The longest text that is looked at, in bytes, is longer than any copy; of a longer one these are read.
-const LONGEST: u64 = 131072;
+const LONGEST: usize = 131072;
 
 // No node: twice for a tip's children.
 const NONE: u16 = 65535;
@@ -57,9 +57,9 @@ fn recopy(out: &mut impl Write, text: &[u8]) -> io::Result<()> {
 }
 
 fn main(rt: HostRuntime) -> io::Result<()> {
-    let mut text = Vec::new(rt.alloc());
-    rt.reader().take(LONGEST).read_to_end(&mut text)?;
     let mut out = BufWriter::new(rt.alloc(), io::writer(&rt))?;
+    let mut text = Vec::with_capacity(rt.alloc(), LONGEST)?;
+    rt.reader().take(LONGEST as u64).read_to_end(&mut text)?;
     recopy(&mut out, &text)?;
     out.flush()
 }

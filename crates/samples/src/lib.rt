@@ -25,28 +25,35 @@ pub const UNDER_ONE: f64 = 1.0 - f64::EPSILON / 2.0;
 // Just under the least tuning.
 pub const UNDER_TUNING: f64 = f64::from_bits(0x3e45_798e_e230_8c39);
 
-// The number of a node, and no node where it has none.
-fn node(k: usize) -> u16 {
-    u16::try_from(k).unwrap_or(NONE)
+// The number of a node, where it has one.
+fn node(k: usize) -> Option<u16> {
+    match u16::try_from(k) {
+        Ok(number) if number != NONE => Some(number),
+        _ => None,
+    }
 }
 
-// Each node after the tips has the one before it and a tip.
+// Each node after the tips has the one before it and a tip, where these are nodes.
 pub fn put_comb(pairs: &mut [u16]) {
     let tips = pairs.len() / 4 + 1;
     let mut below = 0;
     for (k, pair) in pairs.chunks_exact_mut(2).enumerate().skip(tips) {
-        pair[0] = below;
-        pair[1] = node(k - tips + 1);
-        below = node(k);
+        if let (Some(a), Some(b)) = (node(below), node(k - tips + 1)) {
+            pair[0] = a;
+            pair[1] = b;
+        }
+        below = k;
     }
 }
 
-// Each node after the tips has two nodes in a row, so that the tree is as flat as can be.
+// Each node after the tips has two nodes in a row, where these are nodes, so that the tree is as flat as can be.
 pub fn put_flat(pairs: &mut [u16]) {
     let tips = pairs.len() / 4 + 1;
     for (i, pair) in pairs.chunks_exact_mut(2).skip(tips).enumerate() {
-        pair[0] = node(2 * i);
-        pair[1] = node(2 * i + 1);
+        if let (Some(a), Some(b)) = (node(2 * i), node(2 * i + 1)) {
+            pair[0] = a;
+            pair[1] = b;
+        }
     }
 }
 

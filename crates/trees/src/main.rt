@@ -164,6 +164,7 @@ fn largest(out: &mut impl Write) -> io::Result<()> {
     put_comb(&mut pairs);
     made(out, "a comb of 4095 nodes", &pairs, &heights, &mut parents)?;
     put_flat(&mut pairs);
+    parents = [7; 4095];
     made(
         out,
         "a flat tree of 4095 nodes",
