@@ -36,16 +36,17 @@ pub fn age_of(minima: &[f64], maxima: &[f64], tip: usize) -> TipAge
 }
 
 // Whether a tip has neither a fixed age nor an interval of ages that is younger than the origin and does not include the present.
-#[tactic(auto, unfolding(crate::specs::Ages::misaged))]
+#[tactic(auto, using(crate::proofs::TableLaws::age_laws))]
 fn is_misaged(origin: f64, age: TipAge) -> bool
     ensures { result ≡ misaged origin age }
 {
-    !real::is_finite(age.minimum)
-        || !real::is_finite(age.maximum)
-        || age.minimum < 0.0
+    // What is not finite is found by one comparison each, since neither end is below 0 by then.
+    age.minimum < 0.0
+        || !(age.minimum < f64::INFINITY)
         || age.maximum < age.minimum
+        || !(age.maximum < f64::INFINITY)
         || origin <= age.maximum
-        || (age.minimum == 0.0 && 0.0 < age.maximum)
+        || (age.minimum <= 0.0 && 0.0 < age.maximum)
 }
 
 // Whether a tip is at the present where nothing is sampled there.
@@ -57,12 +58,14 @@ fn is_unsampled(sampling: f64, age: TipAge) -> bool
 }
 
 // Whether a tip is against either of the rules on ages.
-#[tactic(auto, unfolding(crate::specs::Ages::at_fault))]
+#[tactic(auto, using(crate::proofs::TableLaws::age_laws), unfolding(crate::specs::Ages::at_fault))]
 fn is_at_fault(minima: &[f64], maxima: &[f64], process: FossilizedBirthDeath, tip: usize) -> bool
     ensures { result ≡ at_fault process minima.now maxima.now tip }
 {
     let age = age_of(minima, maxima, tip);
-    is_misaged(process.origin, age) || is_unsampled(process.present_sampling, age)
+    // The last test is of no tip above the present: one comparison in place of two.
+    is_misaged(process.origin, age)
+        || (age.minimum <= 0.0 && is_unsampled(process.present_sampling, age))
 }
 
 // Whether the tips of a table are in order, or the lowest that is not.

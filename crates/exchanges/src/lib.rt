@@ -143,9 +143,10 @@ pub fn wide_exchange(
 fn is_grand(pairs: &[u16], n: usize, k: usize) -> bool
     ensures { result ≡ grand n (pairs_in pairs.now) k }
 {
+    // By `|`: one branch in place of two.
     reads::is_inner(n, k)
         && (reads::is_inner(n, reads::first(pairs, k))
-            || reads::is_inner(n, reads::second(pairs, k)))
+            | reads::is_inner(n, reads::second(pairs, k)))
 }
 
 // How many of n nodes are such grandparents; no tip is one.
